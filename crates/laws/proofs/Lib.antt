@@ -1,0 +1,5 @@
+-- The laws that more than one crate cites.
+pub mod Order
+pub mod First
+pub mod Table
+pub mod Held

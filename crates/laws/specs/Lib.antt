@@ -1,0 +1,2 @@
+-- The definitions that more than one crate cites.
+pub mod First

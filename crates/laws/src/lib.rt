@@ -1,0 +1,1 @@
+// No code: definitions and laws that more than one crate needs.
