@@ -12,7 +12,7 @@ use Rattle.answers.specs.declared.U64.{U64}
 use Rattle.answers.proofs.Rows.{Clear, accepted-if, accepted-only-if, in-order, passes-on}
 use Rattle.answers.proofs.Once.{oneDone, oneU64}
 use Rattle.int_bits.specs.Gather.{count}
-use Rattle.cards.specs.Table.{Table, cards, Seen, seen, differs, cardRows, guardRows, updated, readReply, writeReply, ChecksCard, ChecksGuard, ChecksWrite, Reads, Writes}
+use Rattle.cards.specs.Table.{Table, cards, Seen, seen, differs, tooWide, cardRows, fieldRows, guardRows, updated, readReply, writeReply, ChecksCard, ChecksGuard, ChecksWrite, Reads, Writes}
 use Rattle.cards.specs.Accepts.{Readable, Writable}
 
 same-seen : {a b : Seen} → differs a b ≡ false → a ≡ b
@@ -61,6 +61,11 @@ module _ {t : Table} {card mask : ℕ} where
     unfolding guardRows
     guard-clear ok =
         (lt-leb (2 ^ count mask 64) expected (ok .narrow-expected), (lt-leb (2 ^ count mask 64) new (ok .narrow-new), (not-differs (ok .unchanged), tt)))
+
+    -- past the width tests the field decides
+    pub field-decides : {r : Done} → tooWide expected mask ≡ false → tooWide new mask ≡ false → meansDone r ≡ unless (fieldRows t card mask expected) (gives tt) → ChecksGuard t card mask expected new r
+    unfolding guardRows
+    field-decides e f d = record { replies = simp (e, f) d }
 
     -- the card's rows stand first: where one applies it decides, and where none does the guard's rows decide
     pub check-refused : {r : Done} {why : Refusal} → ChecksCard t card mask r → r ≡ Done.Refused why → ChecksWrite t card mask expected new r

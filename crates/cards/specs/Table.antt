@@ -42,10 +42,12 @@ tooWide number mask = leb (2 ^ count mask 64) number
 unfoldable pub cardRows : Table → ℕ → ℕ → List Row
 cardRows t card mask = row 5 (ltb 4096 (length t)) ∷ row 6 (leb (cards t) card) ∷ row 7 (eqb mask 0) ∷ []
 
--- the further ones of a guarded write
+-- the further ones of a guarded write: by its numbers' widths, and by what is in the field
+abbrev pub fieldRows : Table → ℕ → ℕ → Seen → List Row
+fieldRows t card mask expected = row 9 (differs (seen t card mask) expected) ∷ []
+
 unfoldable pub guardRows : Table → ℕ → ℕ → Seen → ℕ → List Row
-guardRows t card mask expected new =
-    row 8 (tooWide expected mask) ∷ row 8 (tooWide new mask) ∷ row 9 (differs (seen t card mask) expected) ∷ []
+guardRows t card mask expected new = row 8 (tooWide expected mask) ∷ row 8 (tooWide new mask) ∷ fieldRows t card mask expected
 
 abbrev pub writeRows : Table → ℕ → ℕ → Seen → ℕ → List Row
 writeRows t card mask expected new = cardRows t card mask ++ guardRows t card mask expected new
