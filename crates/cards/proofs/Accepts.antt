@@ -2,6 +2,7 @@
 use mathlib.Core.Path.{_≡_, refl, sym, ap, _∙_}
 use mathlib.Core.Bool.{false, not}
 use Prim.Native.Nat.{ℕ, _^_}
+use lib.Count.{ones}
 use lib.ListN.{length}
 use borrow.Author.Tests.{ltb-false, leb-false, eqb-true, eqb-false, not-false, le-ltb, lt-leb, eq-eqb, ne-eqb}
 use Rattle.answers.specs.Reply.{gives, unless, leaves}
@@ -11,7 +12,6 @@ use Rattle.answers.specs.declared.Done.{Done}
 use Rattle.answers.specs.declared.U64.{U64}
 use Rattle.answers.proofs.Rows.{Clear, accepted-if, accepted-only-if, in-order, passes-on}
 use Rattle.answers.proofs.Once.{oneDone, oneU64}
-use Rattle.int_bits.specs.Gather.{count}
 use Rattle.cards.specs.Table.{Table, cards, Seen, seen, differs, tooWide, cardRows, fieldRows, guardRows, updated, readReply, writeReply, ChecksCard, ChecksGuard, ChecksWrite, Reads, Writes}
 use Rattle.cards.specs.Accepts.{Readable, Writable}
 
@@ -60,7 +60,7 @@ module _ {t : Table} {card mask : ℕ} where
     guard-clear : Writable t card mask expected new → Clear (guardRows t card mask expected new)
     unfolding guardRows
     guard-clear ok =
-        (lt-leb (2 ^ count mask 64) expected (ok .narrow-expected), (lt-leb (2 ^ count mask 64) new (ok .narrow-new), (not-differs (ok .unchanged), tt)))
+        (lt-leb (2 ^ ones mask) expected (ok .narrow-expected), (lt-leb (2 ^ ones mask) new (ok .narrow-new), (not-differs (ok .unchanged), tt)))
 
     -- past the width tests the field decides
     pub field-decides : {r : Done} → tooWide expected mask ≡ false → tooWide new mask ≡ false → meansDone r ≡ unless (fieldRows t card mask expected) (gives tt) → ChecksGuard t card mask expected new r
@@ -100,8 +100,8 @@ module _ {t : Table} {card mask : ℕ} where
         let (guard, _) = accepted-only-if (guardRows t card mask expected new) rest in
         record {
           readable = clear-card front;
-          narrow-expected = leb-false (2 ^ count mask 64) expected (guard .0);
-          narrow-new = leb-false (2 ^ count mask 64) new (guard .1 .0);
+          narrow-expected = leb-false (2 ^ ones mask) expected (guard .0);
+          narrow-new = leb-false (2 ^ ones mask) new (guard .1 .0);
           unchanged = same-seen (guard .1 .1 .0);
         }
 

@@ -3,13 +3,14 @@ use mathlib.Core.Path.{_≡_}
 use mathlib.Core.Bool.{Bool, not}
 use mathlib.Core.List.{List, [], _∷_, _++_}
 use Prim.Native.Nat.{ℕ, _^_}
+use lib.Count.{ones}
 use lib.Dec.{leb, ltb, eqb}
 use lib.ListN.{length, getD, set}
 use Rattle.answers.specs.Reply.{Reply, gives, Row, row, unless, leaves}
 use Rattle.answers.specs.Answers.{meansDone, meansU64}
 use Rattle.answers.specs.declared.Done.{Done}
 use Rattle.answers.specs.declared.U64.{U64}
-use Rattle.int_bits.specs.Gather.{gather, count}
+use Rattle.int_bits.specs.Gather.{gather}
 use Rattle.int_bits.specs.Stored.{stored}
 
 -- the words of a table, one for each card
@@ -36,7 +37,7 @@ differs a b = not (eqb a b)
 
 -- a number is 2^(ones of the mask) or more
 abbrev pub tooWide : ℕ → ℕ → Bool
-tooWide number mask = leb (2 ^ count mask 64) number
+tooWide number mask = leb (2 ^ ones mask) number
 
 -- the refusals of every call on one card's field
 unfoldable pub cardRows : Table → ℕ → ℕ → List Row

@@ -3,12 +3,13 @@
 use mathlib.Core.Path.{refl}
 use mathlib.Core.List.{List, [], _∷_}
 use Prim.Native.Nat.{ℕ, _+_, _-_}
+use lib.Count.{ones}
 use Rattle.answers.specs.declared.Done.{Done}
 use Rattle.answers.specs.declared.U64.{U64}
 use Rattle.answers.specs.declared.Refusal.{Refusal}
-use Rattle.int_bits.specs.Gather.{gather, scatter, bit, count}
+use Rattle.int_bits.specs.Gather.{gather, scatter}
 use Rattle.int_bits.specs.Stored.{stored}
-use Rattle.cards.specs.Table.{Table, cardRows, guardRows, updated, readReply, writeReply}
+use Rattle.cards.specs.Table.{cardRows, guardRows, updated, readReply, writeReply}
 use Rattle.history.specs.History.{Call, reads, writes, History, none, after, reading, writing}
 use Rattle.history.specs.Redemption.{Redemption, Holding, holds, plainly, Interleaved, stop, look, start, finish, Serial}
 use Rattle.history.proofs.Interleaving.{demand-3}
@@ -41,7 +42,7 @@ tills-own =
 
 -- 50 is 32 in hex
 tills-answered : History (0xf325 ∷ []) tills (0xf005 ∷ [])
-unfolding readReply writeReply cardRows guardRows updated stored gather scatter count bit
+unfolding readReply writeReply cardRows guardRows updated stored gather scatter ones
 tills-answered =
     after (reading (record { replies = refl }))
     (after (reading (record { replies = refl }))
@@ -75,7 +76,7 @@ back-own =
     (finish [] [] (take 0xff0 50) 50 Done.Accepted plainly stop)))))
 
 back-answered : History (0xf325 ∷ []) back-at-50 (0xf005 ∷ [])
-unfolding readReply writeReply cardRows guardRows updated stored gather scatter count bit
+unfolding readReply writeReply cardRows guardRows updated stored gather scatter ones
 back-answered =
     after (reading (record { replies = refl }))
     (after (reading (record { replies = refl }))
@@ -113,7 +114,7 @@ overlap-own =
     (start {r = take 0xff0 1} stop))))))
 
 overlap-answered : History (0xf325 ∷ 0 ∷ []) overlap (0xf335 ∷ 0 ∷ [])
-unfolding readReply writeReply cardRows guardRows updated stored gather scatter count bit
+unfolding readReply writeReply cardRows guardRows updated stored gather scatter ones
 overlap-answered =
     after (reading (record { replies = refl }))
     (after (reading (record { replies = refl }))

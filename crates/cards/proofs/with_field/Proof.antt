@@ -1,6 +1,5 @@
 -- `with_field` meets its contract: the code is the definition, and what it stores fits 64 bits.
 use borrow.Author.Needs.{needs}
-use native.Mathlib.Omega.{arith}
 use lib.Bits.{and-le-l}
 use Rattle.int_bits.specs.Stored.{stored}
 use Rattle.int_bits.proofs.Stored.{stored-lt}
@@ -14,5 +13,5 @@ with-field-spec =
     (tie.spec
     (λ c. and-le-l (c .args .word) (c .args .mask))
     (λ c κs. search needs)
-    (λ c. record { fits = rw (c .scatter .ensures) (stored-lt 64 (c .before .args .word) (c .before .args .mask) (c .before .args .new) (omega arith)) })
+    (λ c. record { fits = rw (c .scatter .ensures) (stored-lt 64 (c .before .args .mask) (c .before .fits .mask .fits) (c .before .args .word) (c .before .args .new) (c .before .fits .word .fits)) })
     (λ c. rw (c .scatter .ensures)))
