@@ -72,8 +72,8 @@ module _ {t : Table} {card mask : ℕ} where
     unfolding writeReply
     check-refused p e = record {
       replies =
-        ap meansDone e ∙ passes-on (cardRows t card mask) (λ _. tt) (unless (guardRows t card mask expected new) (gives tt)) (ap meansDone (sym e) ∙ p .replies) tt
-        ∙ sym (in-order (cardRows t card mask) (guardRows t card mask expected new) (gives tt));
+          ap meansDone e ∙ passes-on (cardRows t card mask) (λ _. tt) (unless (guardRows t card mask expected new) (gives tt)) (ap meansDone (sym e) ∙ p .replies) tt
+          ∙ sym (in-order (cardRows t card mask) (guardRows t card mask expected new) (gives tt));
     }
 
     pub check-passed : {r : Done} → Readable t card mask → ChecksGuard t card mask expected new r → ChecksWrite t card mask expected new r

@@ -1,7 +1,7 @@
 -- Demand 3: whatever the interleaving, the table is the one that the accepted redemptions leave, run whole in the order of their writes;
 -- in that run each reads the same number and is accepted.
 use mathlib.Core.Path.{_≡_, refl}
-use mathlib.Core.List.{List, [], _∷_}
+use mathlib.Core.List.{List, []}
 use Prim.Native.Nat.{ℕ}
 use native.Mathlib.Omega.{arith}
 use Rattle.answers.specs.declared.Refusal.{Refusal}
@@ -9,8 +9,8 @@ use Rattle.answers.specs.declared.Done.{Done}
 use Rattle.answers.specs.declared.U64.{U64}
 use Rattle.cards.specs.Table.{Table, Seen, Reads}
 use Rattle.cards.proofs.Once.{one-read}
-use Rattle.history.specs.History.{Call, reads, History, none, after, reading}
-use Rattle.history.specs.Redemption.{Redemption, Holding, holds, Own, taken, Interleaved, stop, look, start, finish, Runs, nobody, turned-away, redeems, redemptions, Whole, Serial}
+use Rattle.history.specs.History.{Call, History, none, after, reading}
+use Rattle.history.specs.Redemption.{Redemption, Holding, holds, taken, Interleaved, stop, look, start, finish, Runs, nobody, turned-away, redeems, redemptions, Whole, Serial}
 use Rattle.history.proofs.Steps.{Does, does, reads-again, refused-stays, one-does}
 
 -- calls that start on an equal table
