@@ -11,7 +11,7 @@ unfolding stored
 with-field-spec =
     tie.close
     (tie.spec
-    (λ c. and-le-l (c .args .word) (c .args .mask))
+    (λ c. and-le-l _ _)
     (λ c κs. search needs)
     (λ c. record { fits = rw (c .scatter .ensures) (stored-lt 64 (c .before .args .mask) (c .before .fits .mask .fits) (c .before .args .word) (c .before .args .new) (c .before .fits .word .fits)) })
     (λ c. rw (c .scatter .ensures)))
