@@ -3,3 +3,4 @@ pub mod Order
 pub mod First
 pub mod Table
 pub mod Held
+pub mod Wrap
