@@ -1,6 +1,5 @@
--- One step of Zimmermann's Karatsuba square root, on natural numbers and over the size b of a digit: from the root s and remainder r of h,
--- a number close to the root of h * (b * b) + a * b + c, and the true root and remainder after at most one correction.
--- Assumes nothing.
+-- One step of Zimmermann's Karatsuba square root, on natural numbers and over the size b of a digit: from the root s and remainder r of
+-- h, a number close to the root of h * (b * b) + a * b + c, and the true root and remainder after at most one correction.
 use mathlib.Core.Path.{_≡_, ap}
 use Prim.Native.Nat.{ℕ, zero, suc, _+_, _-_, _*_, _/_, _%_, _≤_, _<_}
 use native.Mathlib.Nat.{mul-le-mul, mul-le-mul-right, le-of-suc-le-suc, div-lt-iff-lt-mul, div-add-mod', mod-lt}
@@ -13,34 +12,34 @@ pub record Close (n s x y : ℕ) : Type 0 where
   pub above : x < 2 * s
   pub near : y < 2 * s
 
--- with no borrow s is the root, and x - y the remainder
-pub kept : {n s x y : ℕ} → Close n s x y → y ≤ x → Remainder n s (x - y)
-kept p h = record { exact = omega arith; small = omega arith }
-
 square-pred : (s : ℕ) → zero < s → (s - 1) * (s - 1) + 2 * s ≡ s * s + 1
 square-pred zero h = omega arith
 square-pred (suc t) h = let e : suc t - 1 ≡ t = omega arith in rw e (omega arith)
 
--- with a borrow s - 1 is, and the remainder is what makes 2 * s - 1 + x with y
-pub fixed : {n s x y r : ℕ} → Close n s x y → x < y → r + y ≡ x + (2 * s - 1) → Remainder n (s - 1) r
-fixed {s} p h e = let q = square-pred s (omega arith) in record { exact = omega arith; small = omega arith }
+module _ {n s x y : ℕ} (p : Close n s x y) where
+  -- with no borrow s is the root, and x - y the remainder
+  pub kept : y ≤ x → Remainder n s (x - y)
+  kept h = record { exact = omega arith; small = omega arith }
 
--- the same, told by the square of s alone
-pub root-kept : {n s x y : ℕ} → Close n s x y → s * s ≤ n → Root n s
-root-kept p h = record { low = h; high = omega arith }
+  -- with a borrow s - 1 is, and the remainder r is x + (2 * s - 1) - y
+  pub fixed : {r : ℕ} → x < y → r + y ≡ x + (2 * s - 1) → Remainder n (s - 1) r
+  fixed h e = let q = square-pred s (omega arith) in record { exact = omega arith; small = omega arith }
 
-pub root-fixed : {n s x y : ℕ} → Close n s x y → n < s * s → Root n (s - 1)
-root-fixed {s} p h =
-    let e : s - 1 + 1 ≡ s = omega arith in
-    let q = square-pred s (omega arith) in
-    record { low = omega arith; high = rw e h }
+  -- the same, told by the square of s alone
+  pub root-kept : s * s ≤ n → Root n s
+  root-kept h = record { low = h; high = omega arith }
+
+  pub root-fixed : n < s * s → Root n (s - 1)
+  root-fixed h =
+      let e : s - 1 + 1 ≡ s = omega arith in
+      let q = square-pred s (omega arith) in
+      record { low = omega arith; high = rw e h }
 
 square-near : (q b : ℕ) → zero < b → q ≤ b → q * q < b * b + 2 * q
 square-near zero b hb h = omega (arith, mul-le-mul hb hb)
 square-near (suc q) b hb h = omega (arith, mul-le-mul h h)
 
 module _ (b h s r a c : ℕ) (p : Remainder h s r) (pos : zero < b) (norm : b ≤ 2 * s) (ha : a < b) (hc : c < b) where
-  -- the quotient is at most b
   pub quotient-le : (r * b + a) / (2 * s) ≤ b
   quotient-le =
       let bound : r * b + a < suc b * (2 * s) = omega (arith, mul-le-mul-right b (p .small)) in

@@ -1,7 +1,7 @@
 -- The root of a signed number, over the width: the unsigned root of what the cast gives, or a refusal.
 use mathlib.Core.Path.{_≡_, sym, ap, _∙_}
 use mathlib.Core.Bool.{true, false}
-use Prim.Native.Nat.{ℕ, zero, suc, _*_, _^_, _≤_, _<_}
+use Prim.Native.Nat.{ℕ, _^_, _<_}
 use native.Mathlib.Omega.{arith}
 use lib.IntN.{ℤ, pos, natAbs}
 use lib.Signed.{mag, ltZ}
@@ -10,14 +10,7 @@ use mir.Val.{hbits, SFits}
 use Rattle.answers.specs.Reply.{Reply, gives, refused}
 use Rattle.laws.proofs.Held.{held, is-held, tested, from-zero, below-zero}
 use Rattle.int_sqrt.specs.Root.{root, rootOf}
-use Rattle.int_sqrt.proofs.Root.{root-is}
-
-root-le : (n : ℕ) → root n ≤ n
-root-le n = below (root n) (root-is n .low)
-  where
-    below : (s : ℕ) → s * s ≤ n → s ≤ n
-    below zero h = omega arith
-    below (suc s) h = omega arith
+use Rattle.int_sqrt.proofs.Root.{root-le}
 
 module _ {w : Width} {n : ℤ} (f : SFits w n) where
   pub refuses : ltZ (held w n) (pos 0) ≡ true → _≡_ {A = Reply ℤ} (refused 1) (rootOf n)

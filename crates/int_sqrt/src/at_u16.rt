@@ -1,10 +1,13 @@
-// The stages at words of 16 bits.
+// The stages at words of 16 bits, over an n with a one among its two top bits.
 ghost use Prim.Native.Nat.{_/_, _^_, _≤_};
 ghost use Rattle.int_sqrt.specs.Root.{Root, Remainder};
 
 const HALF_BITS: u16 = 16 >> 1;
+
 const QUARTER_BITS: u16 = 16 >> 2;
+
 const LOWER_HALF_1_BITS: u16 = (1 << HALF_BITS) - 1;
+
 const LOWEST_QUARTER_1_BITS: u16 = (1 << QUARTER_BITS) - 1;
 
 // A root and its remainder.
@@ -13,7 +16,8 @@ pub struct WithRemainder {
     pub r: u16,
 }
 
-// The root and remainder of n, from those of its upper half. n has a one among its two top bits.
+// The root and remainder of n, from those of its upper half. The difference may borrow and wrap: then s is one too high, and the repair,
+// which wraps back, gives the exact remainder of s - 1.
 pub fn middle_stage(n: u16, s: u8, r: u8) -> WithRemainder
     requires { ⌜ (2 ^ 14 ≤ n) × Remainder (n / 2 ^ 8) s r ⌝ }
     ensures { λ p. ⌜ Remainder n (p .s) (p .r) ⌝ }
@@ -36,7 +40,7 @@ pub fn middle_stage(n: u16, s: u8, r: u8) -> WithRemainder
     WithRemainder { s, r }
 }
 
-// The root of n, from the root and remainder of its upper half. n has a one among its two top bits.
+// The root of n, from the root and remainder of its upper half. The only square that overflows is that of 2^HALF_BITS, and it is too high.
 pub fn last_stage(n: u16, s: u8, r: u8) -> u16
     requires { ⌜ (2 ^ 14 ≤ n) × Remainder (n / 2 ^ 8) s r ⌝ }
     ensures { λ s. ⌜ Root n s ⌝ }

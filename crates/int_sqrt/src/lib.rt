@@ -1,8 +1,9 @@
-// The integer square root by Zimmermann's Karatsuba method, after Rust's core (library/core/src/num/imp/int_sqrt.rs).
-mod tables;
+// The integer square root by Zimmermann's Karatsuba method, after Rust's core (library/core/src/num/imp/int_sqrt.rs): the root of the top
+// byte from a table, then of twice as many bits at each stage.
 mod at_u16;
 mod at_u32;
 mod at_u64;
+mod tables;
 
 use answers::I8;
 use answers::I16;
@@ -14,15 +15,14 @@ ghost use mathlib.Core.Path.{_≡_};
 ghost use Rattle.answers.specs.Answers.{meansI8, meansI16, meansI32, meansI64};
 ghost use Rattle.int_sqrt.specs.Root.{Root, root, rootOf};
 
-const EVEN_MAKING_BITMASK: u32 = !1;
-
+// The root of n, from the table.
 pub fn u8(n: u8) -> u8
     ensures { λ s. ⌜ s ≡ root n ⌝ }
 {
     tables::U8_ISQRT[n as usize]
 }
 
-// The stages for a width, from the top byte down. n has a one among its two top bits.
+// The root of a normalised n, one with a one among its two top bits: the stages from the top byte down.
 fn u16_stages(n: u16) -> u16
     requires { ⌜ 2 ^ 14 ≤ n ⌝ }
     ensures { λ s. ⌜ Root n s ⌝ }
@@ -50,6 +50,10 @@ fn u64_stages(n: u64) -> u64
     at_u64::last_stage(n, s, r)
 }
 
+// Keeps the normalising shift even, so that half of it takes the root back.
+const EVEN_MAKING_BITMASK: u32 = !1;
+
+// The root of n: of half the width where n fits there, else by the stages at n shifted up to the top.
 pub fn u16(mut n: u16) -> u16
     ensures { λ s. ⌜ s ≡ root n ⌝ }
 {
@@ -98,13 +102,15 @@ pub fn u64(mut n: u64) -> u64
     }
 }
 
+// The root of a signed n, refused below 0.
 pub fn i8(n: i8) -> I8
     ensures { λ r. ⌜ meansI8 r ≡ rootOf n ⌝ }
 {
     if n < 0 {
         I8::Refused(Refusal::NegativeRoot)
     } else {
-        I8::Number(u8(n as u8) as i8)
+        let result = u8(n as u8) as i8;
+        I8::Number(result)
     }
 }
 
@@ -114,7 +120,8 @@ pub fn i16(n: i16) -> I16
     if n < 0 {
         I16::Refused(Refusal::NegativeRoot)
     } else {
-        I16::Number(u16(n as u16) as i16)
+        let result = u16(n as u16) as i16;
+        I16::Number(result)
     }
 }
 
@@ -124,7 +131,8 @@ pub fn i32(n: i32) -> I32
     if n < 0 {
         I32::Refused(Refusal::NegativeRoot)
     } else {
-        I32::Number(u32(n as u32) as i32)
+        let result = u32(n as u32) as i32;
+        I32::Number(result)
     }
 }
 
@@ -134,6 +142,7 @@ pub fn i64(n: i64) -> I64
     if n < 0 {
         I64::Refused(Refusal::NegativeRoot)
     } else {
-        I64::Number(u64(n as u64) as i64)
+        let result = u64(n as u64) as i64;
+        I64::Number(result)
     }
 }
