@@ -78,3 +78,35 @@ pub fn pairs(width: u32) -> impl Iterator<Item = (u64, u64)> {
         .flat_map(move |a| words.clone().into_iter().map(move |b| (a, b)));
     both.chain((0..randoms).map(move |_| (random.word(width), random.word(width))))
 }
+
+#[cfg(test)]
+mod tests {
+    use super::*;
+
+    #[test]
+    fn boundaries_are_distinct_and_hold_the_extremes_and_their_neighbours() {
+        for width in [16, 32, 64] {
+            let words = boundaries(width, BOUNDARIES);
+            assert_eq!(words.len(), BOUNDARIES);
+            let least = i64::MIN >> (64 - width);
+            let most = i64::MAX >> (64 - width);
+            for edge in [
+                0,
+                1,
+                2,
+                -1,
+                -2,
+                least,
+                least + 1,
+                most,
+                most - 1,
+                1 << (width / 2),
+            ] {
+                assert!(
+                    words.contains(&low(edge as u64, width)),
+                    "{edge} at {width} bits"
+                );
+            }
+        }
+    }
+}
