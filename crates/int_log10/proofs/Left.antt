@@ -1,13 +1,13 @@
 -- What the divisions by powers of ten leave of a number, once over the power. Assumes nothing.
-use mathlib.Core.Path.{_≡_, sym, ap, _∙_}
-use Prim.Native.Nat.{ℕ, _+_, _*_, _/_, _^_, _≤_, _<_}
+use mathlib.Core.Path.{_≡_}
+use Prim.Native.Nat.{ℕ, _+_, _/_, _^_, _≤_, _<_}
 use native.Mathlib.Nat.{le-div-iff-mul-le, div-lt-iff-lt-mul, zero-add}
 use native.Mathlib.Omega.{arith}
 use lib.Pow.{pow-add}
 use Rattle.int_log10.specs.Log.{log}
 use Rattle.int_log10.proofs.Log.{power-pos, log-step}
 
--- of v there is left x, of at most n digits, and l is what x lacks of the log
+-- x is left of v, has at most n digits and is above 0; l is what its log lacks of v's
 pub record Left (n v x l : ℕ) : Type 0 where
   pub pos : 0 < x
   pub small : x < 10 ^ n

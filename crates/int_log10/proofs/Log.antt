@@ -1,6 +1,6 @@
--- The log has the property that names it, and nothing else has; its bounds, and the step by a power of ten. Assumes nothing.
+-- The log of v is the k with 10 ^ k ≤ v < 10 ^ (k + 1), and no other number is; its bounds, and the step by a power of ten. Assumes nothing.
 use mathlib.Core.Path.{_≡_, refl, sym}
-use Prim.Native.Nat.{ℕ, zero, suc, _+_, _*_, _/_, _^_, _≤_, _<_}
+use Prim.Native.Nat.{ℕ, zero, suc, _+_, _/_, _^_, _≤_, _<_}
 use native.Mathlib.Nat.{lt-of-lt-of-le, lt-of-le-of-lt, not-le-of-lt, one-le-pow, pow-le-pow-right, pow-suc, le-div-iff-mul-le, div-lt-iff-lt-mul, add-assoc}
 use native.Mathlib.Numerals.{add-one}
 use native.Mathlib.Omega.{arith}

@@ -15,7 +15,7 @@ pub record Log (v k : ℕ) : Type 0 where
 abbrev pub below : ℕ → ℕ → Bool
 below v k = ltb v (10 ^ (k + 1))
 
--- the log, as a number: the first k of which that is true
+-- the log, as a number: the first k of which that is true; v tries are enough, since v < 10 ^ v
 unfoldable pub log : ℕ → ℕ
 log v = firstFrom (below v) v 0
 

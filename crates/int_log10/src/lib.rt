@@ -95,7 +95,7 @@ fn u64_impl(mut val: u64) -> u32
     log + less_than_5(val as u32)
 }
 
-// The log of a number that need not be above 0: where the Rust takes a `NonZero`, or gives an `Option`, the answer is a refusal.
+// The log at each type. The Rust takes a `NonZero` or gives an `Option`; here a number that is not above 0 gets a refusal.
 pub fn u8(val: u8) -> U32
     ensures { λ r. ⌜ meansU32 r ≡ logOf (pos val) ⌝ }
 {
