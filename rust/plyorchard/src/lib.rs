@@ -17,11 +17,13 @@
 
 mod calls;
 mod refusal;
+mod root;
 mod signed;
 
 #[doc(hidden)]
 pub use calls::Answer;
 pub use refusal::Refusal;
+pub use root::{isqrt, Root};
 pub use signed::{next_multiple_of, rem_euclid, strict_abs, strict_add, strict_neg, strict_sub};
 pub use signed::{unsigned_abs, wrapping_add, wrapping_neg, wrapping_sub, Signed};
 
