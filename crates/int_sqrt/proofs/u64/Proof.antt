@@ -1,5 +1,5 @@
 -- The narrower root, or the stages at the normalised number.
-use borrow.Author.Needs.{needs}
+use borrow.Author.Needs.{needs, fits-under}
 use native.Mathlib.Omega.{arith}
 use Rattle.int_sqrt.proofs.Shift.{Normal, normal, top, back}
 use Rattle.int_sqrt.proofs.u64.Statement.{statement}
@@ -16,7 +16,7 @@ u64-spec =
     (λ c. search needs)
     (λ c κs. search needs)
     (λ c. search needs)
-    (λ c. omega (arith, law c))
+    (λ c. fits-under _ _ 64 (law c .small) tt)
     (λ c. law c .small)
     (λ c κs. top (law c))
     (λ c. omega (arith, law (c .before)))
