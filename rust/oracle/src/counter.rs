@@ -36,6 +36,21 @@ impl Counter {
         assert_eq!(ours, expected, "{}: {input:?}", self.run);
         self.compared += 2;
     }
+
+    /// The same, and that the safe function gives the number or the refusal's number.
+    pub fn refusable<T>(
+        &mut self,
+        input: impl Debug,
+        ours: (u8, T),
+        safe: Result<T, u8>,
+        rust: Option<T>,
+        refusal: u8,
+    ) where
+        T: PartialEq + Debug + Default + Copy,
+    {
+        assert_eq!(safe, rust.ok_or(refusal), "{}: {input:?}", self.run);
+        self.answer(input, ours, rust, refusal);
+    }
 }
 
 impl Drop for Counter {
