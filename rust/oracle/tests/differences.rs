@@ -1,5 +1,4 @@
-//! Where the signed forms and the decimal logarithm differ from Rust's: on every input of 8 bits, we refuse exactly where
-//! Rust panics or wraps.
+//! Where the forms differ from Rust's: on every input of 8 bits, we refuse exactly where Rust panics or wraps.
 
 use oracle::Given;
 use std::panic::{catch_unwind, set_hook, take_hook, UnwindSafe};
@@ -34,6 +33,7 @@ fn unexpected() -> Vec<(&'static str, Vec<i16>)> {
         compare!(found, strict_neg, a);
         compare!(found, strict_abs, a);
         compare!(found, ilog10, a);
+        compare!(found, isqrt, a);
         for b in i8::MIN..=i8::MAX {
             compare!(found, strict_add, a, b);
             compare!(found, strict_sub, a, b);

@@ -15,7 +15,7 @@ macro_rules! refusable {
         let rust = <$int as Rust>::$form($($operand),+);
         let ours = <$int as Proved>::$form($($operand),+);
         let safe = plyorchard::$form($($operand),+).map_err(Refusal::number);
-        $calls.refusable(input, (ours.refusal, ours.value), safe, rust, $refusal);
+        $calls.answer(input, safe, (ours.refusal, ours.value), rust.ok_or($refusal));
     }};
 }
 
