@@ -16,12 +16,16 @@
 #![warn(missing_docs)]
 
 mod calls;
+mod log;
 mod refusal;
 mod root;
 mod signed;
 
 #[doc(hidden)]
 pub use calls::Answer;
+#[doc(hidden)]
+pub use log::digit_count_answer;
+pub use log::{digit_count, ilog10, Log10};
 pub use refusal::Refusal;
 pub use root::{isqrt, Root};
 pub use signed::{next_multiple_of, rem_euclid, strict_abs, strict_add, strict_neg, strict_sub};
