@@ -32,6 +32,7 @@ Seen = ℕ
 abbrev pub seen : Table → ℕ → ℕ → Seen
 seen t card mask = gather 64 (fieldWord t card) mask
 
+-- what is there is not what was expected
 abbrev pub differs : Seen → Seen → Bool
 differs a b = not (eqb a b)
 

@@ -78,8 +78,8 @@ fn with_field(word: u64, mask: u64, new: u64) -> u64
     (word - (word & mask)) + int_bits::u64::scatter(new, mask)
 }
 
-// The new number goes into a card's field, unguarded; where there is no such card, nothing changes.
-pub fn store(table: &mut [u64], card: usize, mask: u64, new: u64)
+// The new number goes into a card's field, whatever is there; where there is no such card, nothing changes.
+fn store(table: &mut [u64], card: usize, mask: u64, new: u64)
     ensures { λ _. ⌜ now (table .exit) ≡ updated (now (table .entry)) card mask new ⌝ }
 {
     if card < table.len() {
