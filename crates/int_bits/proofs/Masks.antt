@@ -13,10 +13,10 @@ use lib.Pow.{pow-pos, shr-shr, shr-mono, shr-le, ones-sub-lt}
 use lib.Bits.{bitAnd, bitXor, and-le-l, xor-lt}
 use Rattle.laws.proofs.Order.{by-order}
 use Rattle.int_bits.specs.Gather.{bit, count}
-use Rattle.int_bits.specs.Stages.{flip, fromBits, stageMask, stageMasks}
+use Rattle.int_bits.specs.Stages.{flip, stageMask, stageMasks}
 use Rattle.int_bits.proofs.Bit.{by-bit, bit-lt, bit-and, bit-xor, bit-shr, bit-not, bit-high, bit-shl, bit-shl-low, bit-from, from-lt, same}
 use Rattle.int_bits.proofs.Count.{count-suc, count-le, count-between, count-past}
-use Rattle.int_bits.proofs.Width.{Width, one-shl, shift-lt, twice}
+use Rattle.int_bits.proofs.Width.{Width, one-shl, twice}
 
 -- whole groups of 2^k zeros below p: none below 2^k, and at most one more over 2^k bits
 pub group : ℕ → ℕ → ℕ → ℕ
