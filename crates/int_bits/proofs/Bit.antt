@@ -47,9 +47,9 @@ bit-xor a b j =
     ∙ ap (λ (z : ℕ). z % 2) (xor-add-and x y) ∙ add-mod x y 2
 
 -- the i + 1 low bits are bit i and the i low ones
-pub top : (x i : ℕ) → x % 2 ^ suc i ≡ bit x i * 2 ^ i + x % 2 ^ i
+pub low-suc : (x i : ℕ) → x % 2 ^ suc i ≡ bit x i * 2 ^ i + x % 2 ^ i
 unfolding bit
-top x i = ap (λ (e : ℕ). x % 2 ^ e) (omega arith) ∙ mod-pow-add x 1 i
+low-suc x i = ap (λ (e : ℕ). x % 2 ^ e) (omega arith) ∙ mod-pow-add x 1 i
 
 pub bit-high : {a w j : ℕ} → a < 2 ^ w → w ≤ j → bit a j ≡ 0
 unfolding bit

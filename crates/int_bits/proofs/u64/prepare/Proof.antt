@@ -3,7 +3,7 @@ use mathlib.Core.Path.{refl}
 use Prim.Native.Nat.{_-_}
 use native.Mathlib.Omega.{arith}
 use Rattle.int_bits.proofs.Width.{w64, shift-lt}
-use Rattle.int_bits.proofs.Masks.{Doubling, doubling-start, doubling-next, doubling-less, Prepared, prepared-start, prepared-next, prepared-end}
+use Rattle.int_bits.proofs.Prepare.{Doubling, doubling-start, doubling-next, doubling-less, Prepared, prepared-start, prepared-next, prepared-end}
 use Rattle.int_bits.proofs.u64.prepare.Statement.{statement}
 use Rattle.int_bits.proofs.u64.prepare.Tie as tie
 
