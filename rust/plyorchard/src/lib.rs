@@ -15,10 +15,12 @@
 //! ```
 #![warn(missing_docs)]
 
+mod bits;
 mod calls;
 mod refusal;
 mod signed;
 
+pub use bits::{gather, scatter, Bits};
 #[doc(hidden)]
 pub use calls::Answer;
 pub use refusal::Refusal;
