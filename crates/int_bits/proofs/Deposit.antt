@@ -13,7 +13,7 @@ use Rattle.int_bits.specs.Stages.{flip, stageMask, stageMasks, movedUp, 
 use Rattle.int_bits.proofs.Bit.{by-bit, bit-lt, bit-and, bit-xor, bit-shl, bit-shl-low}
 use Rattle.int_bits.proofs.Width.{Width, one-shl}
 use Rattle.int_bits.proofs.Masks.{mask-of}
-use Rattle.int_bits.proofs.Meaning.{inside, scatter-is, scattered-once}
+use Rattle.int_bits.proofs.Meaning.{inside, scatter-only}
 use Rattle.int_bits.proofs.Places.{pos, pos-next, room, pos-le, mask-at, mask-below, pos-last, pos-first}
 
 -- ---- one stage
@@ -83,7 +83,7 @@ module _ (w x m : ℕ) (hm : m < 2 ^ w) where
 
   -- over the masks of m the stages are scatter
   pub deposit-scatter : (s : ℕ) → w ≤ 2 ^ s → bitAnd (depositStages w s (stageMasks w m s) x) m ≡ scatter w x m
-  deposit-scatter s hs = scattered-once is (scatter-is w m hm x)
+  deposit-scatter s hs = sym (scatter-only w m hm is)
     where
       r : ℕ
       r = depositStages w s (stageMasks w m s) x

@@ -10,7 +10,7 @@ use lib.Pow.{pow-pos, pow-add, split, shl-shr}
 use lib.Bits.{bitAnd, bitXor, xor-zero-r, xor-self, xor-shifted, and-block, and-step, and-le-l}
 use Rattle.int_bits.specs.Gather.{gather, bit, count}
 use Rattle.int_bits.specs.Stages.{flip, stageMask, stageMasks, movedDown, extractStages}
-use Rattle.int_bits.proofs.Bit.{by-bit, bit-lt, bit-and, bit-xor, bit-shr, top, same}
+use Rattle.int_bits.proofs.Bit.{by-bit, bit-lt, bit-and, bit-xor, bit-shr, low-suc, same}
 use Rattle.int_bits.proofs.Width.{Width, one-shl}
 use Rattle.int_bits.proofs.Gather.{gather-none, gather-top, gather-lt}
 use Rattle.int_bits.proofs.Masks.{mask-of}
@@ -76,7 +76,7 @@ spread-same at to y w h = spread-map (λ a. a) (λ a b. refl) at to y w (λ i l 
 spread-self : (y w : ℕ) → y % 2 ^ w ≡ spread (λ i. i) y w
 unfolding spread
 spread-self y zero = mod-one y
-spread-self y (suc w) = top y w ∙ sym (xor-shifted (bit y w) w (y % 2 ^ w) (mod-lt y (pow-pos w))) ∙ ap (bitXor (bit y w * 2 ^ w)) (spread-self y w)
+spread-self y (suc w) = low-suc y w ∙ sym (xor-shifted (bit y w) w (y % 2 ^ w) (mod-lt y (pow-pos w))) ∙ ap (bitXor (bit y w * 2 ^ w)) (spread-self y w)
 
 spread-gather : (w x m : ℕ) → gather w x m ≡ spread (count m) (bitAnd x m) w
 unfolding spread

@@ -1,6 +1,6 @@
 -- Gather and scatter, one bit more at the bottom and at the top, and how wide they are. Each by induction on the width. Assumes nothing.
-use mathlib.Core.Path.{_≡_, refl, sym, ap, _∙_}
-use Prim.Native.Nat.{ℕ, zero, suc, _+_, _-_, _*_, _/_, _%_, _^_, _≤_, _<_, min}
+use mathlib.Core.Path.{_≡_, refl, ap, _∙_}
+use Prim.Native.Nat.{ℕ, zero, suc, _+_, _*_, _/_, _%_, _^_, _<_, min}
 use native.Mathlib.Nat.{pow-suc}
 use native.Mathlib.Omega.{arith}
 use Rattle.laws.proofs.Order.{by-order}
@@ -37,12 +37,6 @@ scatter-odd w x m e = rw (e, scatter)
 
 -- ---- at the top: bit w of the mask says where bit w of x goes, or which bit of x comes there
 
-shifted : (r b c g : ℕ) → r + 2 * (b * 2 ^ c + g) ≡ b * 2 ^ suc c + (r + 2 * g)
-shifted r b c g = rw (pow-suc 2 c) (omega arith)
-
-doubled : (b c g : ℕ) → 2 * (b * 2 ^ c + g) ≡ b * 2 ^ suc c + 2 * g
-doubled b c g = rw (pow-suc 2 c) (omega arith)
-
 pub gather-top : (w x m : ℕ) → gather (suc w) x m ≡ min (bit x w) (bit m w) * 2 ^ count m w + gather w x m
 gather-top zero x m =
     by-bit _ (m % 2) (omega arith)
@@ -52,7 +46,7 @@ gather-top (suc w) x m =
     let ih = gather-top w (x / 2) (m / 2) in
     by-bit _ (m % 2) (omega arith)
     (λ e. rw (gather-even (suc w) x m e, gather-even w x m e, count-even m w e, bit-suc x w, bit-suc m w) ih)
-    (λ e. rw (gather-odd (suc w) x m e, gather-odd w x m e, count-odd m w e, bit-suc x w, bit-suc m w, ih) (shifted _ _ _ _))
+    (λ e. rw (gather-odd (suc w) x m e, gather-odd w x m e, count-odd m w e, bit-suc x w, bit-suc m w, ih, pow-suc 2 (count (m / 2) w)) (omega arith))
 
 pub scatter-top : (w x m : ℕ) → scatter (suc w) x m ≡ min (bit m w) (bit x (count m w)) * 2 ^ w + scatter w x m
 scatter-top zero x m =
@@ -63,8 +57,8 @@ scatter-top (suc w) x m =
     let ih = scatter-top w x (m / 2) in
     let ih' = scatter-top w (x / 2) (m / 2) in
     by-bit _ (m % 2) (omega arith)
-    (λ e. rw (scatter-even (suc w) x m e, scatter-even w x m e, count-even m w e, bit-suc m w, ih) (doubled _ _ _))
-    (λ e. rw (scatter-odd (suc w) x m e, scatter-odd w x m e, count-odd m w e, bit-suc m w, bit-suc x (count (m / 2) w), ih') (shifted _ _ _ _))
+    (λ e. rw (scatter-even (suc w) x m e, scatter-even w x m e, count-even m w e, bit-suc m w, ih, pow-suc 2 w) (omega arith))
+    (λ e. rw (scatter-odd (suc w) x m e, scatter-odd w x m e, count-odd m w e, bit-suc m w, bit-suc x (count (m / 2) w), ih', pow-suc 2 w) (omega arith))
 
 -- ---- how wide they are, and each of their bits
 

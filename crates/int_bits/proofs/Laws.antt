@@ -1,17 +1,17 @@
 -- One undoes the other, and how wide a gathered number is. Each from what its bits are. Assumes nothing.
-use mathlib.Core.Path.{_≡_, refl, sym, ap, _∙_}
-use Prim.Native.Nat.{ℕ, _%_, _^_, _≤_, _<_, min}
+use mathlib.Core.Path.{_≡_, sym, _∙_}
+use Prim.Native.Nat.{ℕ, _%_, _^_, _<_}
 use native.Mathlib.Nat.{mod-lt, min-zero}
 use native.Mathlib.Omega.{arith}
 use lib.Bits.{bitAnd}
 use lib.Count.{ones}
 use lib.Pow.{pow-pos}
 use Rattle.int_bits.specs.Gather.{gather, scatter, bit, count}
-use Rattle.int_bits.specs.Meaning.{One, Gathered, Scattered}
+use Rattle.int_bits.specs.Meaning.{Gathered, Scattered}
 use Rattle.int_bits.proofs.Bit.{bit-lt, bit-and, bit-high, bit-mod}
 use Rattle.int_bits.proofs.Count.{count-ones}
 use Rattle.int_bits.proofs.Gather.{gather-lt}
-use Rattle.int_bits.proofs.Meaning.{fewer, by-place, gather-is, scatter-is, gathered-once, scattered-once}
+use Rattle.int_bits.proofs.Meaning.{fewer, by-place, gather-is, gather-only, scatter-is, scatter-only}
 
 module _ (w m : ℕ) (hm : m < 2 ^ w) (x : ℕ) where
   -- a gathered number is below 2^(ones of m)
@@ -20,7 +20,7 @@ module _ (w m : ℕ) (hm : m < 2 ^ w) (x : ℕ) where
 
   -- scatter after gather is x AND m
   pub scatter-gather : scatter w (gather w x m) m ≡ bitAnd x m
-  scatter-gather = scattered-once (scatter-is w m hm (gather w x m)) is
+  scatter-gather = scatter-only w m hm is
     where
       is : Scattered (gather w x m) m (bitAnd x m)
       is = record {
@@ -30,7 +30,7 @@ module _ (w m : ℕ) (hm : m < 2 ^ w) (x : ℕ) where
 
   -- gather after scatter keeps the lowest bits of x, as many as m has ones
   pub gather-scatter : gather w (scatter w x m) m ≡ x % 2 ^ ones m
-  gather-scatter = gathered-once w m hm (gather-is w m hm (scatter w x m)) (rw (← count-ones w m hm) is)
+  gather-scatter = gather-only w m hm (rw (← count-ones w m hm) is)
     where
       is : Gathered (scatter w x m) m (x % 2 ^ count m w)
       is = record {
@@ -40,7 +40,7 @@ module _ (w m : ℕ) (hm : m < 2 ^ w) (x : ℕ) where
 
   -- a scattered number has no bits but under m
   pub scatter-under : bitAnd (scatter w x m) m ≡ scatter w x m
-  scatter-under = scattered-once is (scatter-is w m hm x)
+  scatter-under = sym (scatter-only w m hm is)
     where
       is : Scattered x m (bitAnd (scatter w x m) m)
       is = record {

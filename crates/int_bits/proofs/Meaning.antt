@@ -1,6 +1,6 @@
 -- Gather and scatter are what document 01 says bit by bit, and nothing else is. Assumes nothing.
-use mathlib.Core.Path.{_≡_, refl, sym, ap, _∙_}
-use Prim.Native.Nat.{ℕ, zero, suc, _+_, _-_, _^_, _≤_, _<_, min}
+use mathlib.Core.Path.{_≡_, refl, sym, _∙_}
+use Prim.Native.Nat.{ℕ, _^_, _≤_, _<_}
 use native.Mathlib.Omega.{arith}
 use Rattle.laws.proofs.Order.{by-order}
 use Rattle.int_bits.specs.Gather.{gather, scatter, bit, count}
@@ -27,26 +27,29 @@ module _ (w m : ℕ) (hm : m < 2 ^ w) where
   none-past : {j : ℕ} → count m w ≤ j → (p : ℕ) → One m j p → ⊥
   none-past h p o = omega (arith, fewer o)
 
-  module _ (x : ℕ) where
-    pub gather-is : Gathered x m (gather w x m)
-    gather-is = record {
-      at = λ j p o. rw (← o .below) (gather-at w x m p (inside o) (o .one));
-      rest = λ j none. by-place _ j (λ p o. absurd (none p o)) (λ h. bit-high (gather-lt w x m) h);
-    }
+  -- ---- gather and scatter are what 01 says
 
-    pub scatter-is : Scattered x m (scatter w x m)
-    scatter-is = record {
-      at = λ i p o. scatter-at w x m p (inside o) ∙ rw (o .one, o .below) (omega (arith, bit-lt x i));
-      rest = λ p e. by-order p w (λ l. scatter-at w x m p l ∙ rw e (omega arith)) (bit-high (scatter-lt w x m));
-    }
+  pub gather-is : (x : ℕ) → Gathered x m (gather w x m)
+  gather-is x = record {
+    at = λ j p o. rw (← o .below) (gather-at w x m p (inside o) (o .one));
+    rest = λ j none. by-place _ j (λ p o. absurd (none p o)) (bit-high (gather-lt w x m));
+  }
 
-  -- two numbers of which 01's sentence holds are the same
-  pub gathered-once : {x a b : ℕ} → Gathered x m a → Gathered x m b → a ≡ b
-  gathered-once {x} {a} {b} ga gb =
-      same a b (λ j.
-      by-place _ j (λ p o. ga .at j p o ∙ sym (gb .at j p o)) (λ h. ga .rest j (none-past h) ∙ sym (gb .rest j (none-past h))))
+  pub scatter-is : (x : ℕ) → Scattered x m (scatter w x m)
+  scatter-is x = record {
+    at = λ i p o. scatter-at w x m p (inside o) ∙ rw (o .one, o .below) (omega (arith, bit-lt x i));
+    rest = λ p e. by-order p w (λ l. scatter-at w x m p l ∙ rw e (omega arith)) (bit-high (scatter-lt w x m));
+  }
 
-pub scattered-once : {x m a b : ℕ} → Scattered x m a → Scattered x m b → a ≡ b
-scattered-once {x} {m} {a} {b} sa sb =
-    same a b (λ p.
-    by-bit _ (bit m p) (bit-lt m p) (λ e. sa .rest p e ∙ sym (sb .rest p e)) (λ e. sa .at _ p (one-at e) ∙ sym (sb .at _ p (one-at e))))
+  -- ---- and no other number is
+
+  pub gather-only : {x r : ℕ} → Gathered x m r → gather w x m ≡ r
+  gather-only {x} {r} g =
+      same _ _ (λ j.
+      by-place _ j (λ p o. gather-is x .at j p o ∙ sym (g .at j p o)) (λ h. gather-is x .rest j (none-past h) ∙ sym (g .rest j (none-past h))))
+
+  pub scatter-only : {x r : ℕ} → Scattered x m r → scatter w x m ≡ r
+  scatter-only {x} {r} s =
+      same _ _ (λ p.
+      by-bit _ (bit m p) (bit-lt m p)
+      (λ e. scatter-is x .rest p e ∙ sym (s .rest p e)) (λ e. scatter-is x .at _ p (one-at e) ∙ sym (s .at _ p (one-at e))))

@@ -1,12 +1,12 @@
 -- Where each one of the mask stands after k stages, and what the masks say there, over the width. Assumes nothing.
-use mathlib.Core.Path.{_≡_, refl, ap, _∙_}
-use Prim.Native.Nat.{ℕ, zero, suc, _+_, _-_, _*_, _/_, _%_, _^_, _≤_, _<_}
+use mathlib.Core.Path.{_≡_, ap, _∙_}
+use Prim.Native.Nat.{ℕ, suc, _+_, _-_, _*_, _/_, _%_, _^_, _≤_, _<_}
 use native.Mathlib.Nat.{mod-one, mod-lt, mod-le, mod-eq-of-lt, div-eq-of-lt-le, div-add-mod', lt-of-le-of-lt, lt-of-lt-of-le}
 use native.Mathlib.Omega.{arith}
 use lib.Pow.{pow-pos}
 use Rattle.int_bits.specs.Gather.{bit, count}
 use Rattle.int_bits.specs.Stages.{flip, stageMask}
-use Rattle.int_bits.proofs.Bit.{bit-not, top}
+use Rattle.int_bits.proofs.Bit.{bit-not, low-suc}
 use Rattle.int_bits.proofs.Count.{count-suc, count-le, count-between, count-both}
 use Rattle.int_bits.proofs.Masks.{mask-bit}
 
@@ -48,11 +48,11 @@ module _ (z k i : ℕ) where
   -- the next stage moves it by 2^k if bit k of its count is set
   pub pos-next : pos z (suc k) i ≡ pos z k i - bit (count z i) k * 2 ^ k
   unfolding pos
-  pos-next = ap (λ (q : ℕ). i - q) (top (count z i) k) ∙ omega arith
+  pos-next = ap (λ (q : ℕ). i - q) (low-suc (count z i) k) ∙ omega arith
 
   pub room : bit (count z i) k ≡ 1 → 2 ^ k ≤ pos z k i
   unfolding pos
-  room h = omega (arith, count-le z i, mod-le (count z i) (2 ^ suc k), top (count z i) k, ap (λ (b : ℕ). b * 2 ^ k) h)
+  room h = omega (arith, count-le z i, mod-le (count z i) (2 ^ suc k), low-suc (count z i) k, ap (λ (b : ℕ). b * 2 ^ k) h)
 
 pub pos-first : (z i : ℕ) → pos z 0 i ≡ i
 unfolding pos

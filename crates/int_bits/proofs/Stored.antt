@@ -1,17 +1,17 @@
 -- A word with a number stored in a field: it fits, the field holds the number, and the other bits are the word's. Assumes nothing.
-use mathlib.Core.Path.{_≡_, refl, sym, ap, _∙_}
-use Prim.Native.Nat.{ℕ, zero, suc, _+_, _-_, _*_, _%_, _^_, _≤_, _<_, min}
+use mathlib.Core.Path.{_≡_, sym}
+use Prim.Native.Nat.{ℕ, _+_, _-_, _%_, _^_, _<_, min}
 use native.Mathlib.Nat.{lt-of-le-of-lt}
 use native.Mathlib.Omega.{arith}
 use lib.Bits.{bitAnd, bitXor, and-le-l, xor-lt, xor-add-and, xor-disjoint}
 use lib.Count.{ones}
-use Rattle.int_bits.specs.Gather.{gather, scatter, bit, count}
-use Rattle.int_bits.specs.Meaning.{One, Gathered, Scattered}
+use Rattle.int_bits.specs.Gather.{gather, scatter, bit}
+use Rattle.int_bits.specs.Meaning.{One, Gathered}
 use Rattle.int_bits.specs.Stored.{stored}
 use Rattle.int_bits.proofs.Bit.{by-bit, bit-lt, bit-and, bit-xor, bit-high, bit-none, same}
 use Rattle.int_bits.proofs.Count.{count-ones}
 use Rattle.int_bits.proofs.Gather.{scatter-lt}
-use Rattle.int_bits.proofs.Meaning.{by-place, gather-is, scatter-is, gathered-once}
+use Rattle.int_bits.proofs.Meaning.{by-place, gather-only, scatter-is}
 use Rattle.int_bits.proofs.Laws.{scatter-gather}
 
 -- neither the difference nor the sum of `stored` carries: both are XOR
@@ -49,7 +49,7 @@ module _ (w mask : ℕ) (hm : mask < 2 ^ w) (word new : ℕ) where
 
   -- the field holds the number, if the mask has ones enough for it
   pub gather-stored : new < 2 ^ ones mask → gather w (stored w word mask new) mask ≡ new
-  gather-stored h = gathered-once w mask hm (gather-is w mask hm (stored w word mask new)) is
+  gather-stored h = gather-only w mask hm is
     where
       is : Gathered (stored w word mask new) mask new
       is = record {

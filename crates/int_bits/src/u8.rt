@@ -8,7 +8,7 @@ const BITS: usize = 8;
 
 const STAGES: usize = 3;
 
-// The masks of the stages: each covers the bits that shift at its stage, and the zeros that they shift into.
+// The mask of each stage: the bits that shift at the stage, and the zeros that they shift into.
 pub fn prepare(sparse: u8) -> [u8; STAGES]
     ensures { λ r. ⌜ r ≡ stageMasks 8 sparse 3 ⌝ }
 {
@@ -17,7 +17,7 @@ pub fn prepare(sparse: u8) -> [u8; STAGES]
     let mut masks = [0; STAGES];
     let mut stage = 0;
     while stage < STAGES {
-        let n = 1usize << stage;
+        let n = 1 << stage;
         // Suppose `zeros` has bits set at ranges `{ a..a+n, b..b+n, ... }`.
         // Then `parity` becomes `{ a.. } XOR { b.. } XOR ...`, the ranges `{ a..b, c..d, e.. }`.
         let mut parity = zeros;
@@ -28,9 +28,9 @@ pub fn prepare(sparse: u8) -> [u8; STAGES]
         }
         masks[stage] = parity;
 
-        // Toggle off the bits that are shifted into: `{ b..b+n, d..d+n, ... }` are left.
+        // Toggle off the bits that are shifted into; left are `{ b..b+n, d..d+n, ... }`.
         zeros &= !parity;
-        // Expand them down to the bits that were shifted from: `{ b-n..b+n, d-n..d+n, ... }`.
+        // Expand these down to the bits that were shifted from: `{ b-n..b+n, d-n..d+n, ... }`.
         zeros ^= zeros >> n;
 
         stage += 1;
@@ -38,15 +38,15 @@ pub fn prepare(sparse: u8) -> [u8; STAGES]
     masks
 }
 
-// Gather, if `masks` are those of `sparse`; for any others, the stages over them.
-pub fn extract_impl(masks: [u8; STAGES], x: u8, sparse: u8) -> u8
+// The stages of gather over any masks: over those of `sparse`, `x` gathered under `sparse`.
+pub fn extract_impl(masks: [u8; STAGES], mut x: u8, sparse: u8) -> u8
     ensures { λ r. ⌜ r ≡ extractStages 3 masks (bitAnd x sparse) ⌝ }
 {
-    let mut x = x & sparse;
+    x &= sparse;
     let mut stage = 0;
     while stage < STAGES {
         let n = 1usize << stage;
-        // The upper run of data is swapped with the group of `n` zeros below it.
+        // In effect, the upper run of data is swapped with the group of `n` zeros below it.
         let q = x & masks[stage];
         x ^= q;
         x ^= q >> n;
@@ -56,16 +56,15 @@ pub fn extract_impl(masks: [u8; STAGES], x: u8, sparse: u8) -> u8
     x
 }
 
-// Scatter, if `masks` are those of `sparse`; for any others, the stages over them, last one first.
-pub fn deposit_impl(masks: [u8; STAGES], x: u8, sparse: u8) -> u8
+// The stages of scatter over any masks: over those of `sparse`, `x` scattered under `sparse`.
+pub fn deposit_impl(masks: [u8; STAGES], mut x: u8, sparse: u8) -> u8
     ensures { λ r. ⌜ r ≡ bitAnd (depositStages 8 3 masks x) sparse ⌝ }
 {
-    let mut x = x;
     let mut stage = STAGES;
     while stage > 0 {
         stage -= 1;
         let n = 1usize << stage;
-        // `n` zeros are inserted somewhere in each run of data to spread it.
+        // In effect, `n` 0-bits are inserted somewhere in each run of data to spread it.
         let q = x & masks[stage];
         x ^= q;
         x ^= q << n;

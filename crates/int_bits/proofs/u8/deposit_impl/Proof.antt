@@ -1,6 +1,6 @@
 -- `u8::deposit_impl` meets its contract: before each turn the stages that are left make the result of x.
 use native.Mathlib.Omega.{arith}
-use Rattle.int_bits.proofs.Width.{w8, shift-lt, shift-fits}
+use Rattle.int_bits.proofs.Width.{w8, before-lt}
 use Rattle.int_bits.proofs.Deposit.{Depositing, depositing-start, depositing-next, depositing-end}
 use Rattle.int_bits.proofs.u8.deposit_impl.Statement.{statement}
 use Rattle.int_bits.proofs.u8.deposit_impl.Tie as tie
@@ -8,15 +8,11 @@ use Rattle.int_bits.proofs.u8.deposit_impl.Tie as tie
 pub deposit-impl-spec : {M : Type 1} → statement M
 deposit-impl-spec =
     tie.close
-    (tie.spec
-    (λ x sparse masks x₀ stage₀ x' stage. Depositing 8 3 masks x₀ x' stage)
-    (λ x sparse masks x₀ stage₀ x' stage. stage)
+    (tie.spec (λ x₀ sparse masks stage₀. Depositing 8 3 masks x₀) (λ x₀ sparse masks stage₀ x stage. stage)
     (λ c. depositing-start)
-    (λ c. omega arith)  -- the stage before
-    (λ c. omega arith)  -- the shift of 1
-    (λ c. omega arith)  -- the read of masks
-    (λ c. record { fits = shift-fits w8 (omega arith) })  -- the cast of n
-    (λ c. shift-lt w8 (omega arith))
-    (λ c. omega arith)  -- stages are left
+    -- the stage before; the shift of 1; the read of masks; the cast of n, the shift by n; stages are left
+    (λ c. omega arith) (λ c. omega arith) (λ c. omega arith)
+    (λ c. omega (arith, before-lt w8 (c .loop-test .taken) (c .before .loop .inv .most)))
+    (λ c. omega (arith, before-lt w8 (c .loop-test .taken) (c .before .loop .inv .most))) (λ c. omega arith)
     (λ c. depositing-next w8 (c .loop-test .taken) (c .before .loop .inv))
     (λ c. depositing-end (c .before .before .args .sparse) (c .loop-test .left) (c .before .loop .inv)))
