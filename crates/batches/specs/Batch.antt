@@ -26,6 +26,10 @@ roomReply count size place = unless (roomRows count size place) (gives tt)
 abbrev pub placed : List ℕ → List ℕ → ℕ → List ℕ
 placed results destination place = take place destination ++ (results ++ drop (place + length results) destination)
 
+-- the destination after a batch over f
+abbrev pub batched : (ℕ → ℕ) → List ℕ → List ℕ → ℕ → List ℕ
+batched f source destination place = leaves (roomReply (length source) (length destination) place) (placed (map f source) destination place) destination
+
 -- the promise of `room_check`: its answer r for so many words, into a destination of a size
 pub record ChecksRoom (count size place : ℕ) (r : Done) : Type 0 where
   pub replies : meansDone r ≡ roomReply count size place
@@ -33,7 +37,7 @@ pub record ChecksRoom (count size place : ℕ) (r : Done) : Type 0 where
 -- the promise of a batch over f: its answer r, and the destination that it leaves
 pub record Batches (f : ℕ → ℕ) (source destination : List ℕ) (place : ℕ) (r : Done) (destination′ : List ℕ) : Type 0 where
   pub replies : meansDone r ≡ roomReply (length source) (length destination) place
-  pub leaves-destination : destination′ ≡ leaves (roomReply (length source) (length destination) place) (placed (map f source) destination place) destination
+  pub leaves-destination : destination′ ≡ batched f source destination place
 
 -- ---- in plain facts
 

@@ -64,6 +64,10 @@ readReply t card mask = unless (cardRows t card mask) (gives (seen t card mask))
 unfoldable pub writeReply : Table → ℕ → ℕ → Seen → ℕ → Reply Unit
 writeReply t card mask expected new = unless (writeRows t card mask expected new) (gives tt)
 
+-- the table after a guarded write
+abbrev pub written : Table → ℕ → ℕ → Seen → ℕ → Table
+written t card mask expected new = leaves (writeReply t card mask expected new) (updated t card mask new) t
+
 -- the promise of `card_check`: its answer r on the table t
 pub record ChecksCard (t : Table) (card mask : ℕ) (r : Done) : Type 0 where
   pub replies : meansDone r ≡ unless (cardRows t card mask) (gives tt)
@@ -83,4 +87,4 @@ pub record Reads (t : Table) (card mask : ℕ) (r : U64) : Type 0 where
 -- the promise of `write`: its answer r on the table t, and the table t′ that it leaves
 pub record Writes (t : Table) (card mask : ℕ) (expected : Seen) (new : ℕ) (r : Done) (t′ : Table) : Type 0 where
   pub replies : meansDone r ≡ writeReply t card mask expected new
-  pub leaves-table : t′ ≡ leaves (writeReply t card mask expected new) (updated t card mask new) t
+  pub leaves-table : t′ ≡ written t card mask expected new
