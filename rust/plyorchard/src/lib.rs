@@ -15,12 +15,14 @@
 //! ```
 #![warn(missing_docs)]
 
+mod bits;
 mod calls;
 mod log;
 mod refusal;
 mod root;
 mod signed;
 
+pub use bits::{gather, scatter, Bits};
 #[doc(hidden)]
 pub use calls::Answer;
 #[doc(hidden)]
