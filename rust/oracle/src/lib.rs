@@ -10,6 +10,7 @@ mod counter;
 mod inputs;
 mod masks;
 mod num;
+pub mod record;
 mod signed;
 pub mod table;
 
