@@ -1,0 +1,4 @@
+pub mod Arms
+pub mod Rows
+pub mod Coded
+pub mod Small
