@@ -1,0 +1,2 @@
+-- The laws that the exported functions cite.
+pub mod Pair

@@ -1,0 +1,4 @@
+pub mod Log
+pub mod Sums
+pub mod Left
+pub mod Answer

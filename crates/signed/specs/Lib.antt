@@ -1,0 +1,3 @@
+-- The definitions that the contracts cite, and document 01's sentences about them.
+pub mod Signed
+pub mod Words
