@@ -66,7 +66,7 @@ halves : (f : ℕ) → f < 16 → encode (4 ∷ 4 ∷ []) (f ∷ 0 ∷ []) ≡ f
 unfolding encode bytes packed unpacked
 halves f h = let e : (f * 2 ^ 4 + (0 * 2 ^ 0 + 0)) / 2 ^ 0 % 2 ^ 8 ≡ f * 16 = omega arith in ap (λ x. x ∷ []) e
 
-answer-bytes : (q : Reply ℕ) → refusalOf q < 16 → natural q < 2 ^ 64 → answerBytes q ≡ refusalOf q * 16 ∷ bytes 8 (natural q)
+pub answer-bytes : (q : Reply ℕ) → refusalOf q < 16 → natural q < 2 ^ 64 → answerBytes q ≡ refusalOf q * 16 ∷ bytes 8 (natural q)
 unfolding answerBytes
 answer-bytes q h k =
     encode-append (4 ∷ 4 ∷ []) (64 ∷ []) 1 8 (refusalOf q ∷ 0 ∷ []) (natural q ∷ []) refl refl refl (k, tt)

@@ -4,7 +4,7 @@ use mathlib.Core.Bool.{Bool, true, false, not, cond, _&&_}
 use mathlib.Core.List.{List, [], _∷_}
 use Prim.Native.Nat.{ℕ, zero, suc, _<_}
 use lib.Dec.{T, leb, ltb, eqb, lit<, ltb→lt}
-use lib.ListN.{length}
+use lib.ListN.{length, getD}
 use lib.IntN.{ℤ, pos, negsuc, natAbs}
 use mir.Syntax.{Width}
 use mir.Val.{ofZ}
@@ -12,9 +12,9 @@ use Rattle.laws.proofs.Table.{both, both-left, both-right}
 use Rattle.answers.specs.Reply.{Reply, gives, refused, refusalOf, mapped, Row, row, unless}
 use Rattle.int_sqrt.specs.Root.{rootOf}
 use Rattle.int_log10.specs.Log.{logOf}
-use Rattle.signed.specs.Signed.{exact, next, remEuclid, nextMultiple}
+use Rattle.signed.specs.Signed.{modZ, eqZ, minZ, outside, exact, next, remEuclid, nextMultiple}
 use Rattle.fields.specs.Fields.{decode}
-use Rattle.records.specs.Operations.{widthOf, numeral, takes, limit, operation, answerOf}
+use Rattle.records.specs.Operations.{widthOf, numeral, takes, limit, operation, refusals, answerOf}
 use Rattle.records.specs.Records.{recordLayout, fieldsReply, replyTo}
 
 pub record Small {A : Type 0} (r : Reply A) : Type 0 where
@@ -27,7 +27,7 @@ smallRows (row k t ∷ rows) = both (ltb k 16) (smallRows rows)
 
 rows-small : {A : Type 0} (rows : List Row) {r : Reply A} → T (smallRows rows) → Small r → Small (unless rows r)
 rows-small [] h s = s
-rows-small {A} (row k t ∷ rows) {r} h s = pick t (ltb→lt k 16 (both-left (ltb k 16) (smallRows rows) h)) (rows-small rows (both-right (ltb k 16) (smallRows rows) h) s)
+rows-small {A} (row k t ∷ rows) h s = pick t (ltb→lt k 16 (both-left (ltb k 16) (smallRows rows) h)) (rows-small rows (both-right (ltb k 16) (smallRows rows) h) s)
   where
     pick : (t : Bool) {x : Reply A} → k < 16 → Small x → Small (cond t (refused k) x)
     pick true p q = record { small = p }
@@ -51,11 +51,11 @@ log-small (negsuc n) = record { small = lit< tt }
 
 rem-small : (w : Width) (a d : ℤ) → Small (remEuclid w a d)
 unfolding remEuclid
-rem-small w a d = rows-small _ tt (given _)
+rem-small w a d = rows-small (row 3 (eqZ d (pos 0)) ∷ row 4 (eqZ a (minZ w) && eqZ d (negsuc 0)) ∷ []) tt (given (pos (modZ a (natAbs d))))
 
 next-small : (w : Width) (a d : ℤ) → Small (nextMultiple w a d)
 unfolding nextMultiple exact
-next-small w a d = rows-small _ tt (rows-small _ tt (given _))
+next-small w a d = rows-small (row 3 (eqZ d (pos 0)) ∷ row 4 (outside w (next a d)) ∷ []) tt (given (next a d))
 
 operation-small : (op code a b : ℕ) → Small (operation op code a b)
 unfolding operation
@@ -69,8 +69,8 @@ operation-small (suc (suc (suc (suc (suc (suc op)))))) code a b = record { small
 
 fields-small : (op code a b : ℕ) → Small (answerOf op code a b)
 unfolding answerOf
-fields-small op code a b = rows-small _ tt (operation-small op code a b)
+fields-small op code a b = rows-small (refusals op code a b) tt (operation-small op code a b)
 
 pub reply-small : (asked : List ℕ) → Small (replyTo asked)
 unfolding replyTo
-reply-small asked = rows-small _ tt (fields-small _ _ _ _)
+reply-small asked = let f = decode recordLayout asked in rows-small (row 13 (not (eqb (length asked) 17)) ∷ []) tt (fields-small (getD f 0 0) (getD f 1 0) (getD f 2 0) (getD f 3 0))

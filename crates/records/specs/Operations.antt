@@ -1,14 +1,14 @@
 -- The operations of a record: which there are, which widths each takes, and what each gives. Operands and values are bits.
 use mathlib.Core.Path.{_≡_}
 use mathlib.Core.Bool.{Bool, true, not, cond, _&&_}
-use mathlib.Core.List.{[], _∷_}
+use mathlib.Core.List.{List, [], _∷_}
 use Prim.Native.Nat.{ℕ, _^_, _<_}
 use lib.Dec.{leb, ltb, eqb}
 use lib.ListN.{getD}
 use lib.IntN.{ℤ, pos}
 use mir.Syntax.{Width, w8, w16, w32, w64}
 use mir.Val.{bits, toZ, ofZ}
-use Rattle.answers.specs.Reply.{Reply, gives, refused, mapped, row, unless}
+use Rattle.answers.specs.Reply.{Reply, gives, refused, mapped, Row, row, unless}
 use Rattle.int_sqrt.specs.Root.{rootOf}
 use Rattle.int_log10.specs.Log.{logOf}
 use Rattle.int_bits.specs.Gather.{gather, scatter}
@@ -58,14 +58,16 @@ operation op code a b =
     ∷ []) op (refused 11)
 
 -- an operation that is not listed or a width it does not take; an operand with bits above its width; an unused operand that is not 0
-unfoldable pub answerOf : ℕ → ℕ → ℕ → ℕ → Reply ℕ
-answerOf op code a b =
-    unless (row 11 (not (takes op code))
+abbrev pub refusals : ℕ → ℕ → ℕ → ℕ → List Row
+refusals op code a b =
+    row 11 (not (takes op code))
     ∷ row 12 (leb (limit code) a)
     ∷ row 12 (leb (limit code) b)
     ∷ row 12 (not (usesB op) && not (eqb b 0))
-    ∷ [])
-    (operation op code a b)
+    ∷ []
+
+unfoldable pub answerOf : ℕ → ℕ → ℕ → ℕ → Reply ℕ
+answerOf op code a b = unless (refusals op code a b) (operation op code a b)
 
 -- what `operate` asks: the width is taken, and both operands fit it
 pub record Ready (op code a b : ℕ) : Type 0 where
