@@ -9,25 +9,26 @@ use Rattle.fields.specs.Fields.{bytes}
 use Rattle.answers.specs.Reply.{Reply, refused, refusalOf, natural, mapped}
 use Rattle.answers.specs.Answers.{meansDone}
 use Rattle.answers.specs.declared.Done.{Done}
+use Rattle.operations.proofs.Room.{Room}
 use Rattle.records.specs.Records.{replyTo, answerBytes, Responds, One}
 use Rattle.records.proofs.Coded.{answer-bytes, written}
-use Rattle.records.proofs.Small.{reply-small}
+use Rattle.records.proofs.RoundTrip.{reply-room}
 
 -- `respond` has the reply q, stores its refusal a half byte up, and has `put` write its value
 module _ (asked : List ℕ) {q : Reply ℕ} (is : q ≡ replyTo asked) where
-  pub four-bits : refusalOf q < 16
-  four-bits = subst (λ q. refusalOf q < 16) (sym is) (reply-small asked .small)
+  pub room : Room (2 ^ 64) q
+  room = subst (Room (2 ^ 64)) (sym is) (reply-room asked)
 
-  pub responds : (l : List ℕ) {r : Done} {why v : ℕ} {ys : List ℕ} → length l ≡ 9 → why ≡ refusalOf q → v ≡ natural q → v < 2 ^ 64 →
+  pub responds : (l : List ℕ) {r : Done} {why v : ℕ} {ys : List ℕ} → length l ≡ 9 → why ≡ refusalOf q → v ≡ natural q →
       meansDone r ≡ mapped (λ _. tt) q →
       ys ≡ bytes (length (midOf 1 (length (set l 0 (why * 16)) - 1) (set l 0 (why * 16)))) v →
       Responds asked r (putMid 1 (length (set l 0 (why * 16)) - 1) (set l 0 (why * 16)) ys)
-  responds l {r} {why} {v} n ew ev fits er e = record {
+  responds l {r} {why} {v} n ew ev er e = record {
     replies = er ∙ ap (mapped (λ _. tt)) is;
     leaves-answer =
         written l (why * 16) v n e
         ∙ ap₂ (λ x y. x * 16 ∷ bytes 8 y) ew ev
-        ∙ sym (answer-bytes q four-bits (subst (λ x. x < 2 ^ 64) ev fits)) ∙ ap answerBytes is;
+        ∙ sym (answer-bytes q (room .refusal) (room .value)) ∙ ap answerBytes is;
   }
 
 module _ (asked answer : List ℕ) {r : Done} where

@@ -10,7 +10,7 @@ use Rattle.int_sqrt.specs.Root.{root, rootOf}
 use Rattle.int_log10.specs.Log.{log, logOf}
 use Rattle.int_bits.specs.Gather.{gather, scatter}
 use Rattle.signed.specs.Signed.{exact, remEuclid, nextMultiple}
-use Rattle.records.specs.Operations.{widthOf, operation, answerOf}
+use Rattle.operations.specs.Operations.{widthOf, operation, answerOf}
 use Rattle.records.specs.Records.{replyTo, answerBytes, answersTo, answers}
 
 -- a row: what is worked out, and what it gives

@@ -12,7 +12,7 @@ use Rattle.fields.specs.Fields.{packed, unpacked, number, bytes, encode, decode
 use Rattle.fields.proofs.Bytes.{Bytes, length-bytes}
 use Rattle.fields.proofs.Parts.{bytes-take, bytes-drop, decode-at, decode-one, decode-two, eight-bytes, encode-append, encode-one}
 use Rattle.answers.specs.Reply.{Reply, refused, refusalOf, natural}
-use Rattle.records.specs.Operations.{answerOf}
+use Rattle.operations.specs.Operations.{answerOf}
 use Rattle.records.specs.Records.{recordLayout, answerLayout, fieldsReply, replyTo, answerBytes}
 
 -- eight bytes from a place on

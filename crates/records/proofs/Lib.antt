@@ -1,10 +1,7 @@
-pub mod Arms
-pub mod Rows
 pub mod Coded
-pub mod Small
+pub mod RoundTrip
 pub mod Calls
 pub mod Answers
 pub mod Loop
-pub mod RoundTrip
 pub mod Cases
 pub mod Unique

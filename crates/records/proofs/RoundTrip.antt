@@ -1,14 +1,18 @@
 -- What is encoded is decoded: a record gets the reply of its fields, and an answer reads back as its refusal, 0 and its value.
 use mathlib.Core.Path.{_≡_, refl, ap, _∙_}
+use mathlib.Core.Bool.{not}
 use mathlib.Core.List.{List, [], _∷_}
 use Prim.Native.Nat.{ℕ, _^_, _<_}
 use native.Mathlib.Omega.{arith}
 use borrow.Author.Tests.{eq-eqb}
-use lib.ListN.{length}
+use lib.Dec.{eqb}
+use lib.Pow.{pow-pos}
+use lib.ListN.{length, getD}
 use Rattle.fields.specs.Fields.{packed, Fitting, bytes, encode, decode}
 use Rattle.fields.proofs.Bytes.{length-bytes, decode-encode}
-use Rattle.answers.specs.Reply.{Reply, refusalOf, natural}
-use Rattle.records.specs.Operations.{answerOf}
+use Rattle.answers.specs.Reply.{refusalOf, natural, row}
+use Rattle.operations.specs.Operations.{answerOf}
+use Rattle.operations.proofs.Room.{Room, rows-room, answer-word}
 use Rattle.records.specs.Records.{recordLayout, answerLayout, fieldsReply, replyTo, answerBytes}
 
 pub record-back : (values : List ℕ) → Fitting recordLayout values → decode recordLayout (encode recordLayout values) ≡ values
@@ -24,6 +28,15 @@ record-reply op code a b o c p q =
     let values = op ∷ code ∷ a ∷ b ∷ [] in
     rw (eq-eqb (length (encode recordLayout values)) 17 (record-bytes values), record-back values (o, (c, (p, (q, tt)))))
 
-pub answer-back : (q : Reply ℕ) → refusalOf q < 16 → natural q < 2 ^ 64 → decode answerLayout (answerBytes q) ≡ refusalOf q ∷ 0 ∷ natural q ∷ []
+-- every reply fits the answer's fields
+pub reply-room : (asked : List ℕ) → Room (2 ^ 64) (replyTo asked)
+unfolding replyTo
+reply-room asked =
+    let f = decode recordLayout asked in
+    rows-room (pow-pos 64) (row 13 (not (eqb (length asked) 17)) ∷ []) tt (λ c. answer-word (getD f 0 0) (getD f 1 0) (getD f 2 0) (getD f 3 0))
+
+pub answer-back : (asked : List ℕ) → decode answerLayout (answerBytes (replyTo asked)) ≡ refusalOf (replyTo asked) ∷ 0 ∷ natural (replyTo asked) ∷ []
 unfolding answerBytes
-answer-back q r v = decode-encode answerLayout 9 refl (refusalOf q ∷ 0 ∷ natural q ∷ []) (r, (omega arith, (v, tt)))
+answer-back asked =
+    let r = replyTo asked in
+    decode-encode answerLayout 9 refl (refusalOf r ∷ 0 ∷ natural r ∷ []) (reply-room asked .refusal, (omega arith, (reply-room asked .value, tt)))

@@ -10,7 +10,7 @@ use Rattle.answers.specs.Reply.{Reply, gives, refusalOf, natural, mapped, Row, 
 use Rattle.answers.specs.Answers.{meansDone, meansU64}
 use Rattle.answers.specs.declared.Done.{Done}
 use Rattle.answers.specs.declared.U64.{U64}
-use Rattle.records.specs.Operations.{answerOf}
+use Rattle.operations.specs.Operations.{answerOf}
 
 -- operation, width, a, b: 17 bytes
 abbrev pub recordLayout : List ℕ

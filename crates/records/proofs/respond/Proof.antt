@@ -5,7 +5,7 @@ use native.Mathlib.Omega.{arith}
 use denote.Ref.{now}
 use lib.ListN.{length, length-set}
 use Rattle.records.proofs.Coded.{nine-bytes}
-use Rattle.records.proofs.Calls.{four-bits, responds}
+use Rattle.records.proofs.Calls.{room, responds}
 use Rattle.records.proofs.respond.Statement.{statement}
 use Rattle.records.proofs.respond.Tie as tie
 
@@ -15,7 +15,7 @@ written c =
     let v = p .before .before in
     let f = v .before in
     let s = f .before .before .before .before in
-    responds _ (f .before .reply-to .ensures) (now (s .args .answer)) (s .pre) (f .refusal .ensures) (v .value .ensures) (search needs) (c .done .ensures) (p .put .ensures)
+    responds _ (f .before .reply-to .ensures) (now (s .args .answer)) (s .pre) (f .refusal .ensures) (v .value .ensures) (c .done .ensures) (p .put .ensures)
 
 pub respond-spec : {M : Type 1} → statement M
 respond-spec =
@@ -23,7 +23,7 @@ respond-spec =
     (tie.spec
     (λ c κs. search needs)
     (λ c κs. search needs)
-    (λ c. omega (arith, c .refusal .ensures, four-bits _ (c .before .reply-to .ensures)))
+    (λ c. omega (arith, c .refusal .ensures, room _ (c .before .reply-to .ensures) .refusal))
     (λ c. search needs)
     (λ c κs. search needs)
     (λ c. simp length-set (omega arith))
