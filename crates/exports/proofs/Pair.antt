@@ -5,7 +5,7 @@ use Prim.Native.Nat.{ℕ}
 use lib.IntN.{ℤ}
 use mir.Syntax.{Width}
 use mir.Val.{SFits}
-use Rattle.answers.specs.Reply.{Reply, refusalOf, whole}
+use Rattle.answers.specs.Reply.{Reply, refusalOf, natural, whole}
 use Rattle.laws.proofs.Held.{held, is-held, both-held}
 
 -- a form of two numbers
@@ -21,11 +21,18 @@ module _ {w : Width} {a b : ℤ} (fa : SFits w a) (fb : SFits w b) where
 
 -- a form of one
 module _ {w : Width} {a : ℤ} (fa : SFits w a) where
-  pub refusal-of-one : (f : ℤ → Reply ℤ) {m : Reply ℤ} {n : ℕ} → m ≡ f (held w a) → n ≡ refusalOf m → n ≡ refusalOf (f a)
-  refusal-of-one f e h = h ∙ ap refusalOf (e ∙ ap f (is-held fa))
+  -- to ask the answer is to ask the definition
+  asked : {A X : Type 0} (ask : Reply A → X) (f : ℤ → Reply A) {m : Reply A} {x : X} → m ≡ f (held w a) → x ≡ ask m → x ≡ ask (f a)
+  asked ask f e h = h ∙ ap ask (e ∙ ap f (is-held fa))
+
+  pub refusal-of-one : {A : Type 0} (f : ℤ → Reply A) {m : Reply A} {n : ℕ} → m ≡ f (held w a) → n ≡ refusalOf m → n ≡ refusalOf (f a)
+  refusal-of-one = asked refusalOf
 
   pub value-of-one : (f : ℤ → Reply ℤ) {m : Reply ℤ} {z : ℤ} → SFits w z → m ≡ f (held w a) → z ≡ whole m → held w z ≡ whole (f a)
-  value-of-one f fz e h = is-held fz ∙ h ∙ ap whole (e ∙ ap f (is-held fa))
+  value-of-one f fz e h = is-held fz ∙ asked whole f e h
+
+  pub natural-value-of-one : (f : ℤ → Reply ℕ) {m : Reply ℕ} {n : ℕ} → m ≡ f (held w a) → n ≡ natural m → n ≡ natural (f a)
+  natural-value-of-one = asked natural
 
   pub number-of-one : (f : ℤ → ℤ) {z : ℤ} → SFits w z → z ≡ f (held w a) → held w z ≡ f a
   number-of-one f fz e = is-held fz ∙ e ∙ ap f (is-held fa)

@@ -4,3 +4,4 @@ pub mod Order
 pub mod First
 pub mod Table
 pub mod Held
+pub mod Wrap

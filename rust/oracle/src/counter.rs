@@ -25,15 +25,21 @@ impl Counter {
         self.compared += 1;
     }
 
-    /// Compares the two answers of a form that can be refused, its refusal's number and its value: Rust's number is to
-    /// come with 0, and where Rust has none it is this refusal with the value 0.
-    pub fn answer<T>(&mut self, input: impl Debug, ours: (u8, T), rust: Option<T>, refusal: u8)
-    where
+    /// Compares a form that can be refused with Rust's number, or with the refusal's number where Rust has none: what
+    /// the safe function gives, and the two numbers of the C functions, the refusal or 0 and the value or 0.
+    pub fn answer<T>(
+        &mut self,
+        input: impl Debug,
+        safe: Result<T, u8>,
+        ours: (u8, T),
+        rust: Result<T, u8>,
+    ) where
         T: PartialEq + Debug + Default,
     {
-        self.refused += u64::from(rust.is_none());
-        let expected = rust.map_or((refusal, T::default()), |value| (0, value));
-        assert_eq!(ours, expected, "{}: {input:?}", self.run);
+        assert_eq!(safe, rust, "{}: {input:?}", self.run);
+        self.refused += u64::from(rust.is_err());
+        let numbers = rust.map_or_else(|refusal| (refusal, T::default()), |value| (0, value));
+        assert_eq!(ours, numbers, "{}: {input:?}", self.run);
         self.compared += 2;
     }
 }

@@ -65,6 +65,14 @@ pub fn values(width: u32) -> impl Iterator<Item = u64> {
         .chain((0..randoms).map(move |_| random.word(width)))
 }
 
+/// Each power of ten that fits in the width, with its neighbours.
+pub fn powers_of_ten(width: u32) -> impl Iterator<Item = u64> {
+    let powers = (0..).map_while(|k| 10u64.checked_pow(k));
+    powers
+        .take_while(move |&p| low(p, width) == p)
+        .flat_map(|p| [p - 1, p, p + 1])
+}
+
 /// The inputs of a form of two operands: every pair at 8 bits, else every pair of boundary values and random pairs.
 pub fn pairs(width: u32) -> impl Iterator<Item = (u64, u64)> {
     let (words, randoms) = match width {
@@ -107,6 +115,19 @@ mod tests {
                     "{edge} at {width} bits"
                 );
             }
+        }
+    }
+
+    #[test]
+    fn powers_of_ten_end_with_the_greatest_that_fits() {
+        let greatest = [
+            (8, 100),
+            (16, 10_000),
+            (32, 1_000_000_000),
+            (64, 10_000_000_000_000_000_000),
+        ];
+        for (width, power) in greatest {
+            assert_eq!(powers_of_ten(width).max(), Some(power + 1));
         }
     }
 }

@@ -8,14 +8,17 @@ use core::hint;
 
 mod counter;
 mod inputs;
+mod masks;
 mod num;
 mod signed;
 
 pub use counter::Counter;
-pub use inputs::{boundaries, pairs, values, Random};
+pub use inputs::{boundaries, pairs, powers_of_ten, values, Random};
+pub use masks::masks;
 pub use num::{deposit_u16, deposit_u32, deposit_u64, deposit_u8};
 pub use num::{extract_u16, extract_u32, extract_u64, extract_u8};
 pub use num::{ilog10_i16, ilog10_i32, ilog10_i64, ilog10_i8};
 pub use num::{ilog10_u16, ilog10_u32, ilog10_u64, ilog10_u8};
+pub use num::{isqrt_i16, isqrt_i32, isqrt_i64, isqrt_i8};
 pub use num::{isqrt_u16, isqrt_u32, isqrt_u64, isqrt_u8};
 pub use signed::{Given, Signed};

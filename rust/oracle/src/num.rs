@@ -47,7 +47,12 @@ unsigned! {
 }
 
 macro_rules! signed {
-    ($($int:ident: $ilog10:ident;)+) => {$(
+    ($($int:ident, $uint:ident: $isqrt:ident $ilog10:ident;)+) => {$(
+        /// The root of n, by `int_sqrt.rs` as `checked_isqrt` calls it; of a negative number there is none.
+        pub fn $isqrt(n: $int) -> Option<$int> {
+            (n >= 0).then(|| int_sqrt::$uint(n.cast_unsigned()).cast_signed())
+        }
+
         /// The decimal log of v, by `int_log10.rs`; of a number that is not above 0 there is none.
         pub fn $ilog10(v: $int) -> Option<u32> {
             int_log10::$int(v)
@@ -56,8 +61,8 @@ macro_rules! signed {
 }
 
 signed! {
-    i8: ilog10_i8;
-    i16: ilog10_i16;
-    i32: ilog10_i32;
-    i64: ilog10_i64;
+    i8, u8: isqrt_i8 ilog10_i8;
+    i16, u16: isqrt_i16 ilog10_i16;
+    i32, u32: isqrt_i32 ilog10_i32;
+    i64, u64: isqrt_i64 ilog10_i64;
 }

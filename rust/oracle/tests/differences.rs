@@ -1,4 +1,4 @@
-//! Where the signed forms differ from Rust's: on every input of 8 bits, we refuse exactly where Rust panics or wraps.
+//! Where the forms differ from Rust's: on every input of 8 bits, we refuse exactly where Rust panics or wraps.
 
 use oracle::Given;
 use std::panic::{catch_unwind, set_hook, take_hook, UnwindSafe};
@@ -18,17 +18,22 @@ fn wrapped(a: i8, d: i8, number: i8) -> bool {
 macro_rules! compare {
     ($found:ident, $form:ident, $a:ident $(, $b:ident)?) => {
         if plyorchard::$form($a $(, $b)?).ok() != unless_panic(|| $a.$form($($b)?)) {
-            $found.push((stringify!($form), vec![$a $(, $b)?]));
+            $found.push((stringify!($form), vec![i16::from($a) $(, i16::from($b))?]));
         }
     };
 }
 
 /// Every form and input that goes against what docs/DIFFERENCES.md says.
-fn unexpected() -> Vec<(&'static str, Vec<i8>)> {
+fn unexpected() -> Vec<(&'static str, Vec<i16>)> {
     let mut found = Vec::new();
+    for v in u8::MIN..=u8::MAX {
+        compare!(found, ilog10, v);
+    }
     for a in i8::MIN..=i8::MAX {
         compare!(found, strict_neg, a);
         compare!(found, strict_abs, a);
+        compare!(found, ilog10, a);
+        compare!(found, isqrt, a);
         for b in i8::MIN..=i8::MAX {
             compare!(found, strict_add, a, b);
             compare!(found, strict_sub, a, b);
@@ -38,7 +43,7 @@ fn unexpected() -> Vec<(&'static str, Vec<i8>)> {
             // A release build wraps where the number does not fit, a debug build panics.
             let refused_wrapped = ours.is_none() && rust.is_some_and(|n| wrapped(a, b, n));
             if ours != rust && !refused_wrapped {
-                found.push(("next_multiple_of", vec![a, b]));
+                found.push(("next_multiple_of", vec![a.into(), b.into()]));
             }
         }
     }

@@ -14,9 +14,8 @@ macro_rules! refusable {
         let input = (stringify!($form), $($operand),+);
         let rust = <$int as Rust>::$form($($operand),+);
         let ours = <$int as Proved>::$form($($operand),+);
-        $calls.answer(input, (ours.refusal, ours.value), rust, $refusal);
         let safe = plyorchard::$form($($operand),+).map_err(Refusal::number);
-        assert_eq!(safe, rust.ok_or($refusal), "{input:?}");
+        $calls.answer(input, safe, (ours.refusal, ours.value), rust.ok_or($refusal));
     }};
 }
 

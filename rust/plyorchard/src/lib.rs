@@ -15,13 +15,21 @@
 //! ```
 #![warn(missing_docs)]
 
+mod bits;
 mod calls;
+mod log;
 mod refusal;
+mod root;
 mod signed;
 
+pub use bits::{gather, scatter, Bits};
 #[doc(hidden)]
 pub use calls::Answer;
+#[doc(hidden)]
+pub use log::digit_count_answer;
+pub use log::{digit_count, ilog10, Log10};
 pub use refusal::Refusal;
+pub use root::{isqrt, Root};
 pub use signed::{next_multiple_of, rem_euclid, strict_abs, strict_add, strict_neg, strict_sub};
 pub use signed::{unsigned_abs, wrapping_add, wrapping_neg, wrapping_sub, Signed};
 

@@ -12,6 +12,4 @@ wrapping-add-spec =
     (λ c κs. search needs)
     (λ c κs. search needs)
     (λ c κs. search needs)
-    (λ c.
-    let s = c .before .before .before .before in
-    wraps-sum (s .fits .a) (s .fits .rhs) (c .before .before .before .cast-unsigned .ensures) (c .before .before .cast-unsigned2 .ensures) (c .cast-signed .ensures) (c .before .wrapping-add-u32 .ensures)))
+    (λ c. let s = c .before .before .before .before in wraps-sum (s .fits .a) (s .fits .rhs) (c .before .before .before .cast-unsigned .ensures) (c .before .before .cast-unsigned2 .ensures) (c .cast-signed .ensures) (c .before .wrapping-add-u32 .ensures)))

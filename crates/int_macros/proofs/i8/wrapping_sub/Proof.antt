@@ -12,6 +12,4 @@ wrapping-sub-spec =
     (λ c κs. search needs)
     (λ c κs. search needs)
     (λ c κs. search needs)
-    (λ c.
-    let s = c .before .before .before .before in
-    wraps-difference (s .fits .a) (s .fits .rhs) (c .before .before .before .cast-unsigned .ensures) (c .before .before .cast-unsigned2 .ensures) (c .cast-signed .ensures) (search needs) (c .before .wrapping-sub-u8 .ensures)))
+    (λ c. let s = c .before .before .before .before in wraps-difference (s .fits .a) (s .fits .rhs) (c .before .before .before .cast-unsigned .ensures) (c .before .before .cast-unsigned2 .ensures) (c .cast-signed .ensures) (search needs) (c .before .wrapping-sub-u8 .ensures)))
