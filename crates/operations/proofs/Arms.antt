@@ -58,7 +58,8 @@ cast-back code a s f e =
     ap (held (widthOf code)) e ∙ is-held (toZ-fits (widthOf code) a f)
     ∙ sym (ap (λ t. cond t (toZ (widthOf code) a) (pos a)) s)
 
-pub both-cast : (code a b : ℕ) {y z : ℤ} → signed code ≡ true → Fits (widthOf code) a → Fits (widthOf code) b → y ≡ toZ (widthOf code) a → z ≡ toZ (widthOf code) b → Cast code a b y z
+pub both-cast : (code a b : ℕ) {y z : ℤ} → signed code ≡ true → Fits (widthOf code) a → Fits (widthOf code) b →
+    y ≡ toZ (widthOf code) a → z ≡ toZ (widthOf code) b → Cast code a b y z
 both-cast code a b s f g p q = record { first = cast-back code a s f p; second = cast-back code b s g q }
 
 module _ {code a b : ℕ} {y z : ℤ} (c : Cast code a b y z) (op : ℕ) {r : Reply ℕ} where
@@ -134,7 +135,8 @@ from-four o = omega arith
 to-seven : {n : ℕ} → 4 ≤ n → n < 8 → (n ≡ 4 → ⊥) → (n ≡ 5 → ⊥) → (n ≡ 6 → ⊥) → n ≡ 7
 to-seven l h f g k = omega arith
 
-pub seven : {op code a b : ℕ} → Ready op code a b → ((((((Unit {0} × (code ≡ 0 → ⊥)) × (code ≡ 1 → ⊥)) × (code ≡ 2 → ⊥)) × (code ≡ 3 → ⊥)) × (code ≡ 4 → ⊥)) × (code ≡ 5 → ⊥)) × (code ≡ 6 → ⊥) → code ≡ 7
+pub seven : {op code a b : ℕ} → Ready op code a b →
+    ((((((Unit {0} × (code ≡ 0 → ⊥)) × (code ≡ 1 → ⊥)) × (code ≡ 2 → ⊥)) × (code ≡ 3 → ⊥)) × (code ≡ 4 → ⊥)) × (code ≡ 5 → ⊥)) × (code ≡ 6 → ⊥) → code ≡ 7
 seven {op} {code} r o = to-seven (from-four (o .0 .0 .0)) (code-small op code (r .listed)) (o .0 .0 .1) (o .0 .1) (o .1)
 
 -- ---- an arm of `operate`, at code k

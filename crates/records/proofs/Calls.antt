@@ -9,7 +9,7 @@ use Rattle.fields.specs.Fields.{bytes}
 use Rattle.answers.specs.Reply.{Reply, refused, refusalOf, natural, mapped}
 use Rattle.answers.specs.Answers.{meansDone}
 use Rattle.answers.specs.declared.Done.{Done}
-use Rattle.operations.proofs.Room.{Room}
+use Rattle.operations.proofs.Values.{Room}
 use Rattle.records.specs.Records.{replyTo, answerBytes, Responds, One}
 use Rattle.records.proofs.Coded.{answer-bytes, written}
 use Rattle.records.proofs.RoundTrip.{reply-room}

@@ -72,7 +72,8 @@ answer-bytes q h k =
     ∙ ap₂ _++_ (halves (refusalOf q) h) (encode-one 8 (natural q))
 
 -- an answer whose first byte is stored and whose other bytes come back from `put`
-pub written : (l : List ℕ) (x v : ℕ) {ys : List ℕ} → length l ≡ 9 → ys ≡ bytes (length (midOf 1 (length (set l 0 x) - 1) (set l 0 x))) v → putMid 1 (length (set l 0 x) - 1) (set l 0 x) ys ≡ x ∷ bytes 8 v
+pub written : (l : List ℕ) (x v : ℕ) {ys : List ℕ} → length l ≡ 9 → ys ≡ bytes (length (midOf 1 (length (set l 0 x) - 1) (set l 0 x))) v →
+    putMid 1 (length (set l 0 x) - 1) (set l 0 x) ys ≡ x ∷ bytes 8 v
 written [] x v n e = absurd (omega arith)
 written (y ∷ l) x v {ys} n e =
     let m : length l ≡ 8 = omega arith in

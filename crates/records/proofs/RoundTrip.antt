@@ -12,7 +12,7 @@ use Rattle.fields.specs.Fields.{packed, Fitting, encode, decode}
 use Rattle.fields.proofs.Bytes.{length-bytes, decode-encode}
 use Rattle.answers.specs.Reply.{refusalOf, natural, row}
 use Rattle.operations.specs.Operations.{answerOf}
-use Rattle.operations.proofs.Room.{Room, rows-room, answer-word}
+use Rattle.operations.proofs.Values.{Room, rows-room, answer-word}
 use Rattle.records.specs.Records.{recordLayout, answerLayout, replyTo, answerBytes}
 
 pub record-back : (values : List ℕ) → Fitting recordLayout values → decode recordLayout (encode recordLayout values) ≡ values
