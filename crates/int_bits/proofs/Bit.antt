@@ -1,7 +1,8 @@
 -- The bits of a number: under the operations of the machine, and that they determine it. Assumes nothing.
 use mathlib.Core.Path.{_≡_, refl, sym, ap, _∙_}
 use Prim.Native.Nat.{ℕ, zero, suc, _+_, _-_, _*_, _/_, _%_, _^_, _≤_, _<_, min}
-use native.Mathlib.Nat.{add-zero, div-one, div-eq-of-lt, add-mod, mod-eq-of-lt, mul-add-mod-self-right, add-mul-mod-self-right, pow-suc, pow-succ', lt-of-lt-of-le}
+use native.Mathlib.Nat.{add-zero, div-one, div-eq-of-lt, pow-suc, pow-succ', lt-of-lt-of-le}
+use native.Mathlib.Nat.{add-mod, mod-eq-of-lt, mul-add-mod-self-right, add-mul-mod-self-right}
 use native.Mathlib.Omega.{arith}
 use lib.Arith.{digits-lt}
 use lib.Pow.{pow-pos, pow-mono, shr-shr, shl-shr, field, high, mod-pow-add, mod-mod-pow}
@@ -111,7 +112,8 @@ module _ (f : ℕ → ℕ) (hf : (j : ℕ) → f j < 2) where
 same-below : (w a b : ℕ) → a < 2 ^ w → b < 2 ^ w → ((j : ℕ) → bit a j ≡ bit b j) → a ≡ b
 same-below zero a b ha hb h = omega arith
 same-below (suc w) a b ha hb h =
-    let e : a / 2 ≡ b / 2 = same-below w (a / 2) (b / 2) (omega (arith, pow-suc 2 w)) (omega (arith, pow-suc 2 w)) (λ j. sym (bit-suc a j) ∙ h (suc j) ∙ bit-suc b j) in
+    let rest : (j : ℕ) → bit (a / 2) j ≡ bit (b / 2) j = λ j. sym (bit-suc a j) ∙ h (suc j) ∙ bit-suc b j in
+    let e : a / 2 ≡ b / 2 = same-below w (a / 2) (b / 2) (omega (arith, pow-suc 2 w)) (omega (arith, pow-suc 2 w)) rest in
     omega (arith, bit-zero a, bit-zero b, h 0)
 
 pub lt-pow : (n : ℕ) → n < 2 ^ n

@@ -29,10 +29,13 @@ and-pow p m =
     ∙ ap (λ (q : ℕ). q * 2 ^ p + 0) (and-step 1 (m / 2 ^ p) ∙ omega arith) ∙ add-zero _
 
 pow-shr : (p n : ℕ) → n ≤ p → 2 ^ p / 2 ^ n ≡ 2 ^ (p - n)
-pow-shr p n h = ap (λ (q : ℕ). 2 ^ q / 2 ^ n) {y = (p - n) + n} (omega arith) ∙ ap (λ (q : ℕ). q / 2 ^ n) (pow-add 2 (p - n) n) ∙ shl-shr (2 ^ (p - n)) n
+pow-shr p n h =
+    ap (λ (q : ℕ). 2 ^ q / 2 ^ n) {y = (p - n) + n} (omega arith)
+    ∙ ap (λ (q : ℕ). q / 2 ^ n) (pow-add 2 (p - n) n) ∙ shl-shr (2 ^ (p - n)) n
 
 module _ (n mask : ℕ) where
-  down-bit : (x j : ℕ) → bit (movedDown n mask x) j ≡ ((bit x j + min (bit x j) (bit mask j)) % 2 + min (bit x (n + j)) (bit mask (n + j))) % 2
+  down-bit : (x j : ℕ)
+      → bit (movedDown n mask x) j ≡ ((bit x j + min (bit x j) (bit mask j)) % 2 + min (bit x (n + j)) (bit mask (n + j))) % 2
   unfolding movedDown
   down-bit x j = simp (bit-xor, bit-shr, bit-and)
 

@@ -160,10 +160,11 @@ module _ {w s : ℕ} (wd : Width w s) where
       → Doubling w sparse stage zeros ((1 * 2 ^ stage) % 2 ^ 64)
   doubling-start {sparse} {zeros} {stage} h inv =
       let e = one-shl wd stage h in
+      let groups = group (flip w sparse) stage in
       record {
         least = omega arith;
         fits = inv .fits;
-        reach = rw e (λ j l. inv .change j ∙ ap (λ (p : ℕ). (group (flip w sparse) stage (j + 2 ^ stage) + group (flip w sparse) stage p) % 2) (omega arith));
+        reach = rw e (λ j l. inv .change j ∙ ap (λ (p : ℕ). (groups (j + 2 ^ stage) + groups p) % 2) (omega arith));
       }
 
   module _ {sparse stage parity len : ℕ} (inv : Doubling w sparse stage parity len) (h : len < w) where
@@ -197,12 +198,14 @@ module _ {w s : ℕ} (wd : Width w s) where
       record {
         most = omega arith;
         whole = length-set masks stage parity ∙ inv .whole;
-        made = rw (add-one stage) (take-suc-set masks stage parity (omega (arith, inv .whole)) ∙ ap₂ (λ (l : List ℕ) (p : ℕ). l ++ (p ∷ [])) (inv .made) e);
+        made = rw (add-one stage)
+            (take-suc-set masks stage parity (omega (arith, inv .whole)) ∙ ap₂ (λ (l : List ℕ) (p : ℕ). l ++ (p ∷ [])) (inv .made) e);
         fits = xor-lt w _ _ hl (lt-of-le-of-lt (shr-le (bitAnd zeros (flip w parity)) _) hl);
         change = rw (one-shl wd stage h, add-one stage, e) (change-suc w sparse stage zeros (inv .change));
       }
 
-pub prepared-end : {w s sparse zeros stage : ℕ} {masks : List ℕ} → s ≤ stage → Prepared w s sparse zeros masks stage → masks ≡ stageMasks w sparse s
+pub prepared-end : {w s sparse zeros stage : ℕ} {masks : List ℕ} → s ≤ stage → Prepared w s sparse zeros masks stage
+    → masks ≡ stageMasks w sparse s
 prepared-end {w} {s} {sparse} {stage = stage} {masks = masks} h inv =
     let e : stage ≡ s = omega arith in
     sym (take-all s masks (omega (arith, inv .whole))) ∙ (rw e at (inv .made))

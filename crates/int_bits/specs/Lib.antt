@@ -1,4 +1,4 @@
--- What the contracts cite, and what the laws about it say.
+-- The definitions that the contracts cite, and document 01's sentences about them.
 pub mod Gather
 pub mod Meaning
 pub mod Stages

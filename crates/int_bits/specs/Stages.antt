@@ -1,4 +1,4 @@
--- The stages of the code: stage k moves bits by 2^k. The mask of each stage, and what the stages do under any masks.
+-- The stages of the code, of which stage k moves bits by 2^k: the mask of each, and what the stages do under any masks.
 use mathlib.Core.List.{List, [], _∷_, _++_}
 use Prim.Native.Nat.{ℕ, zero, suc, _+_, _-_, _*_, _/_, _%_, _^_}
 use lib.ListN.{getD}
@@ -14,7 +14,7 @@ fromBits (suc w) f = f w * 2 ^ w + fromBits w f
 abbrev pub flip : ℕ → ℕ → ℕ
 flip w m = (2 ^ w - 1) - m
 
--- the mask of stage k: bit j is bit k of the number of zeros of m below j + 2^k
+-- the mask of stage k: bit j is bit k of the count of zeros below j + 2^k among the w bits of m
 unfoldable pub stageMask : ℕ → ℕ → ℕ → ℕ
 stageMask w m k = fromBits w (λ j. bit (count (flip w m) (j + 2 ^ k)) k)
 
@@ -30,7 +30,7 @@ movedDown n mask x = bitXor (bitXor x (bitAnd x mask)) (bitAnd x mask / 2 ^ n)
 unfoldable pub movedUp : ℕ → ℕ → ℕ → ℕ → ℕ
 movedUp w n mask x = bitXor (bitXor x (bitAnd x mask)) ((bitAnd x mask * 2 ^ n) % 2 ^ w)
 
--- x after the stages below s: downwards, the first stage first; upwards, the last one first
+-- x after the stages below s: bits go down from the first stage to the last, and up from the last to the first
 unfoldable pub extractStages : ℕ → List ℕ → ℕ → ℕ
 extractStages zero masks x = x
 extractStages (suc s) masks x = movedDown (2 ^ s) (getD masks s 0) (extractStages s masks x)

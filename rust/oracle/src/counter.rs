@@ -42,6 +42,26 @@ impl Counter {
         assert_eq!(ours, numbers, "{}: {input:?}", self.run);
         self.compared += 2;
     }
+
+    /// Compares a call that is lent a slice: its answer, and what the slice holds afterwards.
+    pub fn lent<W>(
+        &mut self,
+        input: impl Debug,
+        ours: (Result<(), u8>, &[W]),
+        model: (Result<(), u8>, &[W]),
+    ) where
+        W: PartialEq + Debug,
+    {
+        assert!(
+            ours == model,
+            "{}: {input:?}: {:?} and not {:?}",
+            self.run,
+            ours.0,
+            model.0
+        );
+        self.refused += u64::from(model.0.is_err());
+        self.compared += 1;
+    }
 }
 
 impl Drop for Counter {

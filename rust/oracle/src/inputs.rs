@@ -23,6 +23,16 @@ impl Random {
         z ^ (z >> 31)
     }
 
+    /// A random number below this one.
+    pub fn below(&mut self, limit: usize) -> usize {
+        (self.bits() % limit as u64) as usize
+    }
+
+    /// One of these, each as likely.
+    pub fn pick<T: Copy>(&mut self, from: &[T]) -> T {
+        from[self.below(from.len())]
+    }
+
     /// A word of this width: half the time any, else one that is near 0 as a signed number, each length as likely.
     pub fn word(&mut self, width: u32) -> u64 {
         let shift = (self.bits() % u64::from(2 * width)) as u32;

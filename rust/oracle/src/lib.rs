@@ -11,6 +11,7 @@ mod inputs;
 mod masks;
 mod num;
 mod signed;
+pub mod table;
 
 pub use counter::Counter;
 pub use inputs::{boundaries, pairs, powers_of_ten, values, Random};

@@ -15,16 +15,22 @@
 //! ```
 #![warn(missing_docs)]
 
+mod batch;
 mod bits;
 mod calls;
+mod cards;
 mod log;
 mod refusal;
 mod root;
 mod signed;
 
+pub use batch::{gather_batch, scatter_batch};
 pub use bits::{gather, scatter, Bits};
 #[doc(hidden)]
 pub use calls::Answer;
+#[doc(hidden)]
+pub use cards::card_read_answer;
+pub use cards::{card_read, card_write};
 #[doc(hidden)]
 pub use log::digit_count_answer;
 pub use log::{digit_count, ilog10, Log10};
