@@ -23,7 +23,7 @@ pub fn room_check(count: usize, size: usize, place: usize) -> Done
 }
 
 // Which way a batch moves bits: together from the ones of the mask, or apart to them.
-pub enum Direction {
+enum Direction {
     Gather,
     Scatter,
 }

@@ -1,0 +1,4 @@
+pub mod Layouts
+pub mod Bytes
+pub mod Loops
+pub mod Parts

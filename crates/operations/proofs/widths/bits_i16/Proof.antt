@@ -1,0 +1,21 @@
+-- `bits_i16` meets its contract: each arm is told the answer.
+use mathlib.Core.Path.{sym, ap}
+use borrow.Author.Needs.{needs}
+use mir.Syntax.{w16}
+use mir.Val.{ofZ}
+use Rattle.answers.specs.Reply.{mapped}
+use Rattle.answers.specs.Answers.{meansI16}
+use Rattle.operations.proofs.Arms.{in-bits}
+use Rattle.operations.proofs.widths.bits_i16.Statement.{statement}
+use Rattle.operations.proofs.widths.bits_i16.Tie as tie
+
+pub bits-i16-spec : {M : Type 1} → statement M
+bits-i16-spec =
+    tie.close
+    (tie.spec
+    (λ c. search needs)
+    (λ c κs. search needs)
+    (λ c. search needs)
+    (λ c. search needs)
+    (λ c. in-bits w16 (c .cast-unsigned .ensures) (search needs) (sym (ap meansI16 (c .before .before .x .given .1))))
+    (λ c. sym (ap (λ x. mapped (ofZ w16) (meansI16 x)) (c .before .x2 .given .1))))

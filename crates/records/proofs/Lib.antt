@@ -1,0 +1,7 @@
+pub mod Coded
+pub mod RoundTrip
+pub mod Calls
+pub mod Answers
+pub mod Loop
+pub mod Cases
+pub mod Unique
