@@ -169,8 +169,8 @@ uint32_t ply_unsigned_abs_i32(int32_t a);
 uint64_t ply_unsigned_abs_i64(int64_t a);
 
 /* Writes each word of the source, gathered or scattered under the mask, into the destination from the place on; its
- * other words stay. Gives the refusal, 10 where the place lies past the end or the source is longer than what remains, or 0.
- * `roomReply` and `batched` in batches/specs/Batch. */
+ * other words stay. Gives the refusal, 10 where the place lies past the end or the source is longer than what remains,
+ * or 0. `roomReply` and `batched` in batches/specs/Batch. */
 uint8_t ply_gather_batch(const uint64_t *source, size_t source_words, uint64_t mask,
                          uint64_t *destination, size_t destination_words, size_t place);
 uint8_t ply_scatter_batch(const uint64_t *source, size_t source_words, uint64_t mask,

@@ -1,5 +1,5 @@
-/* The rows at the edge of document 01 through the C functions: at least one function of each kind, and each refusal by its
- * name in the header. */
+/* The rules' rows at the edge through the C functions: at least one function of each kind, and each refusal by its name
+ * in the header. */
 #include "plyorchard.h"
 
 #include <stdio.h>
@@ -75,11 +75,54 @@ static void signed_forms(void)
     IS(ply_unsigned_abs_i8(-128), 128);
 }
 
+static void batches(void)
+{
+    const uint64_t source[2] = {0xFF00, 0x0AB0};
+    uint64_t destination[4] = {7, 7, 7, 7};
+
+    IS(ply_gather_batch(source, 2, 0x0FF0, destination, 4, 1), PLY_ACCEPTED);
+    IS(destination[0], 7);
+    IS(destination[1], 0xF0);
+    IS(destination[2], 0xAB);
+    IS(destination[3], 7);
+    IS(ply_scatter_batch(destination + 1, 1, 0x0FF0, destination + 2, 2, 0), PLY_ACCEPTED);
+    IS(destination[2], 0x0F00);
+    IS(destination[3], 7);
+
+    IS(ply_gather_batch(source, 2, 0x0FF0, destination, 4, 3), PLY_NO_ROOM);
+    IS(ply_scatter_batch(source, 0, 0x0FF0, destination, 4, 5), PLY_NO_ROOM);
+    IS(ply_gather_batch(source, 0, 0x0FF0, destination, 4, 4), PLY_ACCEPTED);
+    IS(destination[3], 7);
+}
+
+static void cards(void)
+{
+    static uint64_t table[4097] = {0xFF00, 0x1234};
+
+    GIVES(ply_card_read, (table, 2, 0, 0x0FF0), 0xF0);
+    IS(ply_card_write(table, 2, 0, 0x0FF0, 0xF0, 0x0A), PLY_ACCEPTED);
+    IS(table[0], 0xF0A0);
+    IS(ply_card_write(table, 2, 0, 0x0FF0, 0xF0, 0x0A), PLY_DIFFERS);
+    IS(ply_card_write(table, 2, 0, 0x0FF0, 0x0A, 0x100), PLY_TOO_WIDE);
+    IS(ply_card_write(table, 2, 0, 0, 0x0A, 0x0A), PLY_EMPTY_MASK);
+    IS(ply_card_write(table, 2, 2, 0x0FF0, 0, 0), PLY_NO_SUCH_CARD);
+    IS(ply_card_write(table, 4097, 0, 0x0FF0, 0x0A, 0), PLY_TABLE_TOO_LONG);
+    IS(table[0], 0xF0A0);
+    IS(table[1], 0x1234);
+
+    GIVES(ply_card_read, (table, 4096, 1, UINT64_MAX), 0x1234);
+    REFUSES(ply_card_read, (table, 4097, 1, UINT64_MAX), PLY_TABLE_TOO_LONG);
+    REFUSES(ply_card_read, (table, 1, 1, UINT64_MAX), PLY_NO_SUCH_CARD);
+    REFUSES(ply_card_read, (table, 2, 1, 0), PLY_EMPTY_MASK);
+}
+
 int main(void)
 {
     roots_and_logs();
     bits();
     signed_forms();
+    batches();
+    cards();
     printf("C: %u numbers compared, %u wrong\n", compared, wrong);
     return wrong != 0;
 }

@@ -1,79 +1,106 @@
-//! What the proved functions cost beside the Rust as given, as a table.
+//! What the proved functions cost beside the Rust as given, as tables.
 //!
-//! `bench` measures times. `bench names` writes the rows' names, and `bench NAME SIDE ROUNDS` only runs a side of a row
-//! (0 ours, 1 what stands beside it, 2 the driver), for whoever counts instructions.
+//! `bench` measures times, and `bench program PATH` how many records a second the record program answers. For whoever
+//! counts instructions, `bench names` writes the rows' names, and `bench NAME WHICH CALLS` makes one round of so many
+//! calls, where WHICH is `ours`, `beside` or `neither`.
 
 mod batches;
 mod function;
 mod kernels;
+mod program;
 mod row;
 
-use row::{Row, Side, CALLS};
+use row::{Round, Row};
+use std::error::Error;
 use std::hint::black_box;
-use std::process::ExitCode;
 use std::time::Instant;
 
-/// How many rounds of each side a row has; the shortest counts.
-const ROUNDS: usize = 4000;
+/// How many calls a timed round makes, and how many rounds there are of each side; the shortest counts.
+const CALLS: usize = 1 << 14;
+const ROUNDS: usize = 1000;
 
-/// A round's shortest time, in nanoseconds a call: ours, and what stands beside it. The two take turns.
-fn times(row: &Row) -> [f64; 2] {
-    let mut shortest = [f64::INFINITY; 2];
-    for _ in 0..ROUNDS {
-        for (least, side) in shortest.iter_mut().zip([Side::Ours, Side::Beside]) {
-            let start = Instant::now();
-            black_box(row.round(side));
-            let nanoseconds = start.elapsed().as_nanos() as f64;
-            *least = least.min(nanoseconds / CALLS as f64);
-        }
-    }
-    shortest
+/// Rows, with what a time is for and what the functions stand beside.
+struct Table {
+    per: &'static str,
+    beside: &'static str,
+    rows: Vec<Row>,
 }
 
-/// Writes a table in Markdown.
-fn table(first: &str, beside: &str, rows: &[Row]) {
-    println!("| {first} | ns | {beside}, ns | ratio |\n|---|---:|---:|---:|");
-    for row in rows {
-        let [ours, other] = times(row);
+fn tables() -> [Table; 2] {
+    [
+        Table {
+            per: "a call",
+            beside: "the Rust",
+            rows: kernels::rows(),
+        },
+        Table {
+            per: "a word",
+            beside: "a call for each",
+            rows: batches::rows(),
+        },
+    ]
+}
+
+fn rows() -> impl Iterator<Item = Row> {
+    tables().into_iter().flat_map(|table| table.rows)
+}
+
+/// A round's time, in nanoseconds a call.
+fn time(round: &Round) -> f64 {
+    let start = Instant::now();
+    black_box(round());
+    start.elapsed().as_nanos() as f64 / CALLS as f64
+}
+
+/// Writes a table in Markdown. The rounds of the two sides of a row take turns.
+fn measure(table: Table) {
+    println!(
+        "| C function | ns {} | {}, ns | ratio |",
+        table.per, table.beside
+    );
+    println!("|---|---:|---:|---:|");
+    for row in table.rows {
+        let rounds = (row.rounds)(CALLS);
+        let (mut ours, mut other) = (f64::INFINITY, f64::INFINITY);
+        for _ in 0..ROUNDS {
+            ours = ours.min(time(&rounds.ours));
+            other = other.min(time(&rounds.beside));
+        }
         let ratio = ours / other;
         println!("| `{}` | {ours:.2} | {other:.2} | {ratio:.2} |", row.name);
     }
     println!();
 }
 
-/// Runs a side of a row, as the arguments say.
-fn run(rows: &[Row], name: &str, side: &str, rounds: &str) -> Option<()> {
-    let row = rows.iter().find(|row| row.name == name)?;
-    let sides = [Side::Ours, Side::Beside, Side::Driver];
-    let side = *sides.get(side.parse::<usize>().ok()?)?;
-    for _ in 0..rounds.parse().ok()? {
-        black_box(row.round(side));
-    }
-    Some(())
+/// Makes one round, if there is such a row and such a side.
+fn one_round(name: &str, which: &str, calls: usize) -> Option<u64> {
+    let row = rows().find(|row| row.name == name)?;
+    let rounds = (row.rounds)(calls);
+    let round = match which {
+        "ours" => rounds.ours,
+        "beside" => rounds.beside,
+        "neither" => rounds.neither,
+        _ => return None,
+    };
+    Some(black_box(round()))
 }
 
-fn main() -> ExitCode {
-    let (kernels, batches) = (kernels::rows(), batches::rows());
+fn main() -> Result<(), Box<dyn Error>> {
     let arguments: Vec<String> = std::env::args().skip(1).collect();
     let arguments: Vec<&str> = arguments.iter().map(String::as_str).collect();
     match arguments[..] {
-        [] => {
-            table("C function", "the Rust", &kernels);
-            table("C function, a word", "the single call", &batches);
-            ExitCode::SUCCESS
+        [] => tables().into_iter().for_each(measure),
+        ["names"] => rows().for_each(|row| println!("{}", row.name)),
+        ["program", path] => {
+            let millions = program::records_a_second(path)? / 1e6;
+            println!("{millions:.1} million records a second");
         }
-        ["names"] => {
-            for row in kernels.iter().chain(&batches) {
-                println!("{}", row.name);
-            }
-            ExitCode::SUCCESS
+        [name, which, calls] => {
+            one_round(name, which, calls.parse()?).ok_or("no such row or side")?;
         }
-        [name, side, rounds] => {
-            let rows: Vec<Row> = kernels.into_iter().chain(batches).collect();
-            run(&rows, name, side, rounds).map_or(ExitCode::FAILURE, |()| ExitCode::SUCCESS)
-        }
-        _ => ExitCode::FAILURE,
+        _ => return Err("takes nothing, `names`, `program PATH` or NAME WHICH CALLS".into()),
     }
+    Ok(())
 }
 
 #[cfg(test)]
@@ -82,10 +109,11 @@ mod tests {
 
     #[test]
     fn both_sides_of_every_row_give_the_same_numbers() {
-        for row in kernels::rows().iter().chain(&batches::rows()) {
-            let ours = row.round(Side::Ours);
-            assert_eq!(ours, row.round(Side::Beside), "{}", row.name);
-            assert_ne!(ours, row.round(Side::Driver), "{}", row.name);
+        for row in rows() {
+            let rounds = (row.rounds)(CALLS);
+            let ours = (rounds.ours)();
+            assert_eq!(ours, (rounds.beside)(), "{}", row.name);
+            assert_ne!(ours, (rounds.neither)(), "{}", row.name);
         }
     }
 }

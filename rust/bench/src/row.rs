@@ -4,68 +4,68 @@ use crate::function::Function;
 use oracle::Random;
 use std::hint::black_box;
 
-/// How many calls a round makes, or how many words it moves.
-pub const CALLS: usize = 1 << 12;
-
-/// What a round calls.
-#[derive(Clone, Copy)]
-pub enum Side {
-    /// The proved function.
-    Ours,
-    /// What it is compared with.
-    Beside,
-    /// Functions that only return: what is left is the driver's own cost.
-    Driver,
-}
-
 /// A round makes its calls and gives the sum of the numbers.
 pub type Round = Box<dyn Fn() -> u64>;
 
+/// The rounds of a row over so many calls.
+pub struct Rounds {
+    /// Of the proved function.
+    pub ours: Round,
+    /// Of what it is compared with.
+    pub beside: Round,
+    /// Of neither: what a round costs by itself.
+    pub neither: Round,
+}
+
+/// A name, and how its rounds are made for so many calls.
 pub struct Row {
     pub name: &'static str,
-    rounds: [Round; 3],
+    pub rounds: Box<dyn Fn(usize) -> Rounds>,
 }
 
 impl Row {
-    /// A row by its rounds, in the order of the sides.
-    pub fn new(name: &'static str, rounds: [Round; 3]) -> Row {
-        Row { name, rounds }
-    }
-
     /// The row of two functions of numbers, and where a second operand comes from if they take one.
-    pub fn of<F: Function, I: Iterator<Item = u64>>(
+    pub fn of<F: Function, I: Iterator<Item = u64> + 'static>(
         name: &'static str,
         [ours, beside]: [F; 2],
         seconds: fn(u32) -> I,
     ) -> Row {
-        let pairs = words(F::BITS).zip(seconds(F::BITS));
-        let inputs: Vec<_> = pairs.take(CALLS).collect();
-        let round = |function: F| -> Round {
-            let inputs = inputs.clone();
-            Box::new(move || drive(black_box(function), &inputs))
+        let rounds = move |calls| {
+            let pairs = words(F::BITS).zip(seconds(F::BITS));
+            let inputs: Vec<_> = pairs.take(calls).collect();
+            let round = |function: F| -> Round {
+                let inputs = inputs.clone();
+                Box::new(move || drive(black_box(function), &inputs))
+            };
+            Rounds {
+                ours: round(ours),
+                beside: round(beside),
+                neither: round(F::nothing()),
+            }
         };
-        Row::new(name, [ours, beside, F::nothing()].map(round))
-    }
-
-    /// One round of a side.
-    pub fn round(&self, side: Side) -> u64 {
-        self.rounds[side as usize]()
+        Row {
+            name,
+            rounds: Box::new(rounds),
+        }
     }
 }
 
 /// First operands of this width, without end.
 pub fn words(width: u32) -> impl Iterator<Item = u64> {
-    let mut random = Random::new(5);
-    std::iter::repeat_with(move || random.word(width))
+    random_words(5, width)
 }
 
-/// Second operands of this width that are no masks, without end.
+/// Second operands of this width, without end.
 pub fn operands(width: u32) -> impl Iterator<Item = u64> {
-    let mut random = Random::new(6);
+    random_words(6, width)
+}
+
+fn random_words(seed: u64, width: u32) -> impl Iterator<Item = u64> {
+    let mut random = Random::new(seed);
     std::iter::repeat_with(move || random.word(width))
 }
 
-/// The one loop of all sides of a row: it does not know the function that it calls.
+/// The one loop of all rounds of a row: it does not know the function that it calls.
 #[inline(never)]
 fn drive<F: Function>(function: F, inputs: &[(u64, u64)]) -> u64 {
     let numbers = inputs.iter().map(|&(a, b)| function.call(a, b));
