@@ -9,7 +9,7 @@
  *
  * A lent slice is a pointer and then a count of words or bytes. It is the caller's to see that the pointer is aligned,
  * not NULL even where the count is 0, and reaches that many; that nothing else uses the slice during the call; and that
- * a slice which the call may write overlaps no other. A refused call changes no slice, but for `ply_record`'s answer.
+ * a slice which the call may write overlaps no other. A refused call changes no slice.
  */
 #ifndef PLYORCHARD_H
 #define PLYORCHARD_H
@@ -171,24 +171,20 @@ uint64_t ply_unsigned_abs_i64(int64_t a);
 /* Writes each word of the source, gathered or scattered under the mask, into the destination from the place on; its
  * other words stay. Gives the refusal, 10 where the place lies past the end or the source is longer than what remains,
  * or 0. `roomReply` and `batched` in batches/specs/Batch. */
-uint8_t ply_gather_batch(const uint64_t *source, size_t source_words, uint64_t mask,
-                         uint64_t *destination, size_t destination_words, size_t place);
-uint8_t ply_scatter_batch(const uint64_t *source, size_t source_words, uint64_t mask,
-                          uint64_t *destination, size_t destination_words, size_t place);
+uint8_t ply_gather_batch(const uint64_t *source, size_t source_count, uint64_t mask,
+                         uint64_t *destination, size_t destination_count, size_t place);
+uint8_t ply_scatter_batch(const uint64_t *source, size_t source_count, uint64_t mask,
+                          uint64_t *destination, size_t destination_count, size_t place);
 
 /* The number in a card's field: the card's word gathered under the mask. Refused with 5, 6 or 7.
  * `readReply` in cards/specs/Table. */
-uint8_t ply_card_read_refusal(const uint64_t *table, size_t words, size_t card, uint64_t mask);
-uint64_t ply_card_read_value(const uint64_t *table, size_t words, size_t card, uint64_t mask);
+uint8_t ply_card_read_refusal(const uint64_t *table, size_t table_count, size_t card, uint64_t mask);
+uint64_t ply_card_read_value(const uint64_t *table, size_t table_count, size_t card, uint64_t mask);
 
 /* Puts a new number into a card's field if the field holds the expected one, and changes no other bit. Gives the
  * refusal, 5 to 9, or 0. `writeReply` and `written` in cards/specs/Table. */
-uint8_t ply_card_write(uint64_t *table, size_t words, size_t card, uint64_t mask,
+uint8_t ply_card_write(uint64_t *table, size_t table_count, size_t card, uint64_t mask,
                        uint64_t expected, uint64_t new_number);
-
-/* Answers one record: 17 bytes in, 9 bytes out (docs/RULES.md, Records). Gives the refusal or 0. With 13, for a length
- * that is another, the answer stays; every other refusal is written into it too. `One` in records/specs/Records. */
-uint8_t ply_record(const uint8_t *record, size_t record_bytes, uint8_t *answer, size_t answer_bytes);
 
 #ifdef __cplusplus
 }
