@@ -4,5 +4,6 @@ pub mod batch;
 pub mod bits;
 pub mod card_table;
 pub mod logs;
+pub mod one_record;
 pub mod roots;
 pub mod signed_forms;

@@ -1,11 +1,11 @@
 -- Bytes: numbers there and back, and layouts of whole bytes, encoded and decoded, also in parts.
-use mathlib.Core.Path.{_≡_, refl, sym, ap, _∙_, subst}
+use mathlib.Core.Path.{_≡_, refl, sym, _∙_}
 use mathlib.Core.List.{List, [], _∷_, _++_}
 use Prim.Native.Nat.{ℕ, zero, suc, _+_, _*_, _/_, _%_, _^_, _<_}
 use native.Mathlib.Nat.{mod-eq-of-lt}
 use native.Mathlib.Omega.{arith}
 use lib.ListN.{length, getD, length-append, length-replicate, replicate-append-replicate}
-use Rattle.fields.specs.Fields.{size, packed, unpacked, Fitting, eights, number, bytes, encode, decode}
+use Rattle.fields.specs.Fields.{size, packed, Fitting, eights, number, bytes, encode, decode}
 use Rattle.fields.proofs.Layouts.{length-unpacked, packed-below, unpacked-packed, packed-unpacked, packed-append, unpacked-append}
 
 -- what a slice of bytes holds

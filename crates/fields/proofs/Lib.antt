@@ -1,3 +1,4 @@
+-- The laws that the proofs cite.
 pub mod Layouts
 pub mod Bytes
 pub mod Loops

@@ -50,10 +50,12 @@ bytes-last k n =
     ∙ bytes-append k 1 (n / 256) (n % 256) (omega arith)
     ∙ ap (λ b. bytes k (n / 256) ++ (b ∷ [])) low
 
-put-more : (part : List ℕ) (i rest : ℕ) → 0 < i → i ≤ length part → bytes i rest ++ drop i part ≡ bytes (i - 1) (rest / 256) ++ drop (i - 1) (set part (i - 1) (rest % 256))
+put-more : (part : List ℕ) (i rest : ℕ) → 0 < i → i ≤ length part →
+    bytes i rest ++ drop i part ≡ bytes (i - 1) (rest / 256) ++ drop (i - 1) (set part (i - 1) (rest % 256))
 put-more part zero rest h k = absurd (omega arith)
 put-more part (suc i) rest h k =
-    rw (sub-one, bytes-last i rest, drop-cons (set part i (rest % 256)) i 0 (lt-length-set part i (rest % 256) k), getD-set-same part i (rest % 256) 0 k, drop-set-lt (suc i) part i (rest % 256) (omega arith), append-snoc)
+    let b = rest % 256 in
+    rw (sub-one, bytes-last i rest, drop-cons (set part i b) i 0 (lt-length-set part i b k), getD-set-same part i b 0 k, drop-set-lt (suc i) part i b (omega arith), append-snoc)
 
 pub put-next : {n : ℕ} {part₀ part : List ℕ} {rest i : ℕ} → Put n part₀ part rest i → 0 < i → Put n part₀ (set part (i - 1) (rest % 256)) (rest / 256) (i - 1)
 put-next {n} {part₀} {part} {rest} {i} p h = record {

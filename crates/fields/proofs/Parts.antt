@@ -38,7 +38,8 @@ module _ (ss ts : List ℕ) where
       ap (decode (ss ++ ts)) (sym (take-append-drop j l))
       ∙ decode-append (take j l) (drop j l) (bytes-drop j b) (rw (length-drop j l) e)
 
-  pub encode-append : (j k : ℕ) (vs us : List ℕ) → size ss ≡ 8 * j → size ts ≡ 8 * k → length vs ≡ length ss → Fitting ts us → encode (ss ++ ts) (vs ++ us) ≡ encode ss vs ++ encode ts us
+  pub encode-append : (j k : ℕ) (vs us : List ℕ) → size ss ≡ 8 * j → size ts ≡ 8 * k → length vs ≡ length ss → Fitting ts us →
+      encode (ss ++ ts) (vs ++ us) ≡ encode ss vs ++ encode ts us
   unfolding encode
   encode-append j k vs us p q e f =
       let all : size (ss ++ ts) / 8 ≡ j + k = rw (size-append ss ts) (omega arith) in

@@ -1,11 +1,11 @@
 -- The arms of `at_u8` to `at_i64` and of `operate`: the operation of each number, and what the last arm of a match knows.
-use mathlib.Core.Path.{_≡_, refl, sym, ap, _∙_, subst}
-use mathlib.Core.Bool.{Bool, true, false, _&&_}
+use mathlib.Core.Path.{_≡_, refl, sym, ap, ap₂, _∙_, subst}
+use mathlib.Core.Bool.{Bool, true, false, cond, _&&_}
 use Prim.Native.Nat.{ℕ, zero, suc, _<_, _≤_}
 use native.Mathlib.Omega.{arith}
 use borrow.Author.Tests.{ltb-true, leb-true}
 use lib.Dec.{lit<, lit≤}
-use lib.IntN.{ℤ}
+use lib.IntN.{ℤ, pos}
 use mir.Syntax.{Width}
 use mir.Val.{bits, Fits, toZ, ofZ}
 use mir.ValLaws.{toZ-fits}
@@ -15,7 +15,9 @@ use Rattle.int_sqrt.specs.Root.{rootOf}
 use Rattle.int_log10.specs.Log.{logOf}
 use Rattle.int_bits.specs.Gather.{gather, scatter}
 use Rattle.signed.specs.Signed.{remEuclid, nextMultiple}
-use Rattle.operations.specs.Operations.{widthOf, numeral, inBits, firstCode, endCode, takes, operation, Ready}
+use Rattle.operations.specs.Operations.{widthOf, signed, numeral, inBits, firstCode, endCode, takes, operation, Ready}
+
+-- ---- which operation an arm is
 
 module _ (op code a b : ℕ) {r : Reply ℕ} where
   chosen : (k : ℕ) → op ≡ k → r ≡ operation k code a b → r ≡ operation op code a b
@@ -37,17 +39,42 @@ module _ (op code a b : ℕ) {r : Reply ℕ} where
   unfolding operation
   scatter-at = chosen 3
 
-  pub rem-at : op ≡ 4 → r ≡ inBits code (remEuclid (widthOf code) (numeral code a) (numeral code b)) → r ≡ operation op code a b
+  rem-at : op ≡ 4 → r ≡ inBits code (remEuclid (widthOf code) (numeral code a) (numeral code b)) → r ≡ operation op code a b
   unfolding operation
   rem-at = chosen 4
 
-  pub next-at : op ≡ 5 → r ≡ inBits code (nextMultiple (widthOf code) (numeral code a) (numeral code b)) → r ≡ operation op code a b
+  next-at : op ≡ 5 → r ≡ inBits code (nextMultiple (widthOf code) (numeral code a) (numeral code b)) → r ≡ operation op code a b
   unfolding operation
   next-at = chosen 5
 
--- a cast operand is the number that its bits stand for
-pub cast-back : (w : Width) (a : ℕ) {z : ℤ} → Fits w a → z ≡ toZ w a → held w z ≡ toZ w a
-cast-back w a f e = ap (held w) e ∙ is-held (toZ-fits w a f)
+-- ---- signed widths: both operands are cast, and the answer is turned back into bits
+
+pub record Cast (code a b : ℕ) (y z : ℤ) : Type 0 where
+  pub first : held (widthOf code) y ≡ numeral code a
+  pub second : held (widthOf code) z ≡ numeral code b
+
+cast-back : (code a : ℕ) {z : ℤ} → signed code ≡ true → Fits (widthOf code) a → z ≡ toZ (widthOf code) a → held (widthOf code) z ≡ numeral code a
+cast-back code a s f e =
+    ap (held (widthOf code)) e ∙ is-held (toZ-fits (widthOf code) a f)
+    ∙ sym (ap (λ t. cond t (toZ (widthOf code) a) (pos a)) s)
+
+pub both-cast : (code a b : ℕ) {y z : ℤ} → signed code ≡ true → Fits (widthOf code) a → Fits (widthOf code) b →
+    y ≡ toZ (widthOf code) a → z ≡ toZ (widthOf code) b → Cast code a b y z
+both-cast code a b s f g p q = record { first = cast-back code a s f p; second = cast-back code b s g q }
+
+module _ {code a b : ℕ} {y z : ℤ} (c : Cast code a b y z) (op : ℕ) {r : Reply ℕ} where
+  pub signed-log : op ≡ 1 → r ≡ logOf (held (widthOf code) y) → r ≡ operation op code a b
+  signed-log e p = log-at op code a b e (p ∙ ap logOf (c .first))
+
+  module _ {m : Reply ℤ} (i : r ≡ inBits code m) where
+    pub signed-root : op ≡ 0 → m ≡ rootOf (held (widthOf code) y) → r ≡ operation op code a b
+    signed-root e p = root-at op code a b e (i ∙ ap (inBits code) (p ∙ ap rootOf (c .first)))
+
+    pub signed-rem : op ≡ 4 → m ≡ remEuclid (widthOf code) (held (widthOf code) y) (held (widthOf code) z) → r ≡ operation op code a b
+    signed-rem e p = rem-at op code a b e (i ∙ ap (inBits code) (p ∙ ap₂ (remEuclid (widthOf code)) (c .first) (c .second)))
+
+    pub signed-next : op ≡ 5 → m ≡ nextMultiple (widthOf code) (held (widthOf code) y) (held (widthOf code) z) → r ≡ operation op code a b
+    signed-next e p = next-at op code a b e (i ∙ ap (inBits code) (p ∙ ap₂ (nextMultiple (widthOf code)) (c .first) (c .second)))
 
 -- a signed answer as bits
 pub in-bits : (w : Width) {m : Reply ℤ} {z : ℤ} {n : ℕ} → n ≡ ofZ w (held w z) → held w z ≡ z → gives z ≡ m → gives n ≡ mapped (ofZ w) m
@@ -108,7 +135,8 @@ from-four o = omega arith
 to-seven : {n : ℕ} → 4 ≤ n → n < 8 → (n ≡ 4 → ⊥) → (n ≡ 5 → ⊥) → (n ≡ 6 → ⊥) → n ≡ 7
 to-seven l h f g k = omega arith
 
-pub seven : {op code a b : ℕ} → Ready op code a b → ((((((Unit {0} × (code ≡ 0 → ⊥)) × (code ≡ 1 → ⊥)) × (code ≡ 2 → ⊥)) × (code ≡ 3 → ⊥)) × (code ≡ 4 → ⊥)) × (code ≡ 5 → ⊥)) × (code ≡ 6 → ⊥) → code ≡ 7
+pub seven : {op code a b : ℕ} → Ready op code a b →
+    ((((((Unit {0} × (code ≡ 0 → ⊥)) × (code ≡ 1 → ⊥)) × (code ≡ 2 → ⊥)) × (code ≡ 3 → ⊥)) × (code ≡ 4 → ⊥)) × (code ≡ 5 → ⊥)) × (code ≡ 6 → ⊥) → code ≡ 7
 seven {op} {code} r o = to-seven (from-four (o .0 .0 .0)) (code-small op code (r .listed)) (o .0 .0 .1) (o .0 .1) (o .1)
 
 -- ---- an arm of `operate`, at code k

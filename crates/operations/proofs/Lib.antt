@@ -1,3 +1,4 @@
+-- The laws that the proofs cite.
 pub mod Arms
 pub mod Rows
-pub mod Room
+pub mod Values

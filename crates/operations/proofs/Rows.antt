@@ -7,8 +7,8 @@ use native.Mathlib.Omega.{arith}
 use borrow.Author.Tests.{le-ltb, le-leb, lt-leb}
 use lib.Dec.{leb, ltb, eqb}
 use lib.ListN.{List·getD-eq-default}
-use Rattle.answers.specs.Reply.{refused, unless}
-use Rattle.operations.specs.Operations.{firstCode, endCode, takes, limit, usesB, operation, answerOf, Ready}
+use Rattle.answers.specs.Reply.{refused}
+use Rattle.operations.specs.Operations.{firstCode, endCode, takes, limit, operation, answerOf, Ready}
 
 and-no : (s : Bool) → (s && false) ≡ false
 and-no true = refl

@@ -51,7 +51,8 @@ fn answer(input: &[u8], output: &mut [u8]) -> bool {
     }
 }
 
-// One turn: whole records as long as the input goes on, then what is left of it. Says whether to go on.
+// One turn: whole records as long as the input goes on, then what is left of it. Says whether to go on. The answers to
+// whole records, followed by those to the rest, are the answers to all (`answers-append` of records).
 fn turn(input: &mut [u8], output: &mut [u8]) -> bool {
     match fill(input) {
         Filled::Full => answer(input, output),
@@ -66,8 +67,8 @@ fn turn(input: &mut [u8], output: &mut [u8]) -> bool {
     }
 }
 
-// Room for 4,096 records and their answers. A proved loop has to end, and nothing says that the input does: the turns are counted down
-// from a number that no run uses up.
+// Room for 4,096 records and their answers. A proved loop has to end, and nothing says that the input does: the turns are
+// counted down from a number that no run uses up.
 fn main() {
     let mut input = [0u8; 69_632];
     let mut output = [0u8; 36_864];

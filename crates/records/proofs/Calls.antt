@@ -1,7 +1,7 @@
 -- What `respond` and `one` promise, from the tests and the bytes that they write.
 use mathlib.Core.Path.{_≡_, sym, ap, ap₂, _∙_, subst}
 use mathlib.Core.List.{List, _∷_}
-use Prim.Native.Nat.{ℕ, _-_, _*_, _^_, _<_}
+use Prim.Native.Nat.{ℕ, _-_, _*_, _^_}
 use borrow.Author.Tests.{eq-eqb, ne-eqb}
 use borrow.Rule.Slice.PartMut.{midOf, putMid}
 use lib.ListN.{length, set}
@@ -9,7 +9,7 @@ use Rattle.fields.specs.Fields.{bytes}
 use Rattle.answers.specs.Reply.{Reply, refused, refusalOf, natural, mapped}
 use Rattle.answers.specs.Answers.{meansDone}
 use Rattle.answers.specs.declared.Done.{Done}
-use Rattle.operations.proofs.Room.{Room}
+use Rattle.operations.proofs.Values.{Room}
 use Rattle.records.specs.Records.{replyTo, answerBytes, Responds, One}
 use Rattle.records.proofs.Coded.{answer-bytes, written}
 use Rattle.records.proofs.RoundTrip.{reply-room}

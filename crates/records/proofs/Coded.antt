@@ -1,6 +1,5 @@
 -- A record's fields and an answer's bytes, as the code reads and writes them, are those of the layouts.
-use mathlib.Core.Path.{_≡_, refl, sym, ap, ap₂, _∙_, subst}
-use mathlib.Core.Bool.{not, cond}
+use mathlib.Core.Path.{_≡_, refl, sym, ap, ap₂, _∙_}
 use mathlib.Core.List.{List, [], _∷_, _++_, append-nil}
 use Prim.Native.Nat.{ℕ, suc, _+_, _-_, _*_, _/_, _%_, _^_, _<_, _≤_}
 use native.Mathlib.Omega.{arith}
@@ -13,7 +12,7 @@ use Rattle.fields.proofs.Bytes.{Bytes, length-bytes}
 use Rattle.fields.proofs.Parts.{bytes-take, bytes-drop, decode-at, decode-one, decode-two, eight-bytes, encode-append, encode-one}
 use Rattle.answers.specs.Reply.{Reply, refused, refusalOf, natural}
 use Rattle.operations.specs.Operations.{answerOf}
-use Rattle.records.specs.Records.{recordLayout, answerLayout, fieldsReply, replyTo, answerBytes}
+use Rattle.records.specs.Records.{recordLayout, answerLayout, replyTo, answerBytes}
 
 -- eight bytes from a place on
 abbrev word : ℕ → List ℕ → List ℕ
@@ -73,7 +72,8 @@ answer-bytes q h k =
     ∙ ap₂ _++_ (halves (refusalOf q) h) (encode-one 8 (natural q))
 
 -- an answer whose first byte is stored and whose other bytes come back from `put`
-pub written : (l : List ℕ) (x v : ℕ) {ys : List ℕ} → length l ≡ 9 → ys ≡ bytes (length (midOf 1 (length (set l 0 x) - 1) (set l 0 x))) v → putMid 1 (length (set l 0 x) - 1) (set l 0 x) ys ≡ x ∷ bytes 8 v
+pub written : (l : List ℕ) (x v : ℕ) {ys : List ℕ} → length l ≡ 9 → ys ≡ bytes (length (midOf 1 (length (set l 0 x) - 1) (set l 0 x))) v →
+    putMid 1 (length (set l 0 x) - 1) (set l 0 x) ys ≡ x ∷ bytes 8 v
 written [] x v n e = absurd (omega arith)
 written (y ∷ l) x v {ys} n e =
     let m : length l ≡ 8 = omega arith in

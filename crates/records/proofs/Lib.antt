@@ -1,3 +1,4 @@
+-- The laws that the proofs cite.
 pub mod Coded
 pub mod RoundTrip
 pub mod Calls

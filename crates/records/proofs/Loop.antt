@@ -1,7 +1,7 @@
 -- The loop of `many`: the answers so far stand in front of the output.
-use mathlib.Core.Path.{_≡_, refl, sym, ap, _∙_, subst}
+use mathlib.Core.Path.{_≡_, refl, sym, ap, _∙_}
 use mathlib.Core.List.{List, [], _∷_, _++_, append-assoc}
-use Prim.Native.Nat.{ℕ, suc, _+_, _-_, _*_, _<_, _≤_, min}
+use Prim.Native.Nat.{ℕ, _+_, _-_, _*_, _<_, _≤_, min}
 use native.Mathlib.Decide.{decLe}
 use native.Mathlib.Nat.{le-antisymm}
 use native.Mathlib.Numerals.{add-one}
@@ -60,7 +60,8 @@ module _ {input output₀ output : List ℕ} {i : ℕ} (a : Answered input outpu
       }
 
   -- as the code lends the two parts
-  pub answered-next : {ys : List ℕ} {e : ℕ} {r : Done} → e ≡ min (17 * i + 17) (length input) → Responds (take (e - 17 * i) (drop (17 * i) input)) r ys → Answered input output₀ (putMid (9 * i) (9 * i + 9 - 9 * i) output ys) (i + 1)
+  pub answered-next : {ys : List ℕ} {e : ℕ} {r : Done} → e ≡ min (17 * i + 17) (length input) → Responds (take (e - 17 * i) (drop (17 * i) input)) r ys →
+      Answered input output₀ (putMid (9 * i) (9 * i + 9 - 9 * i) output ys) (i + 1)
   answered-next {ys} {e} q p =
       let k : 9 * i + 9 - 9 * i ≡ 9 = omega arith in
       rw k (next (p .leaves-answer ∙ ap (λ l. answerBytes (replyTo l)) (part-is input i e q (omega arith))))
@@ -71,7 +72,8 @@ module _ (input output : List ℕ) {r : U64} where
       let no-room = lt-ltb (length output) (length (answers input)) (rw (length-answers (records input) input) h) in
       record { replies = e ∙ sym (rw no-room); leaves-output = sym (rw no-room) }
 
-  pub many-answered : {output′ : List ℕ} {i : ℕ} → meansU64 r ≡ gives (9 * records input) → records input ≤ i → Answered input output output′ i → Many input output r output′
+  pub many-answered : {output′ : List ℕ} {i : ℕ} → meansU64 r ≡ gives (9 * records input) → records input ≤ i →
+      Answered input output output′ i → Many input output r output′
   many-answered {output′} {i} e k a =
       let n : i ≡ records input = le-antisymm (a .within) k in
       let long = length-answers (records input) input in

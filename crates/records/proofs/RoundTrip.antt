@@ -1,5 +1,5 @@
 -- What is encoded is decoded: a record gets the reply of its fields, and an answer reads back as its refusal, 0 and its value.
-use mathlib.Core.Path.{_≡_, refl, ap, _∙_}
+use mathlib.Core.Path.{_≡_, refl}
 use mathlib.Core.Bool.{not}
 use mathlib.Core.List.{List, [], _∷_}
 use Prim.Native.Nat.{ℕ, _^_, _<_}
@@ -8,12 +8,12 @@ use borrow.Author.Tests.{eq-eqb}
 use lib.Dec.{eqb}
 use lib.Pow.{pow-pos}
 use lib.ListN.{length, getD}
-use Rattle.fields.specs.Fields.{packed, Fitting, bytes, encode, decode}
+use Rattle.fields.specs.Fields.{packed, Fitting, encode, decode}
 use Rattle.fields.proofs.Bytes.{length-bytes, decode-encode}
 use Rattle.answers.specs.Reply.{refusalOf, natural, row}
 use Rattle.operations.specs.Operations.{answerOf}
-use Rattle.operations.proofs.Room.{Room, rows-room, answer-word}
-use Rattle.records.specs.Records.{recordLayout, answerLayout, fieldsReply, replyTo, answerBytes}
+use Rattle.operations.proofs.Values.{Room, rows-room, answer-word}
+use Rattle.records.specs.Records.{recordLayout, answerLayout, replyTo, answerBytes}
 
 pub record-back : (values : List ℕ) → Fitting recordLayout values → decode recordLayout (encode recordLayout values) ≡ values
 record-back = decode-encode recordLayout 17 refl

@@ -43,9 +43,16 @@ lengthRows asked answer = row 13 (not (eqb (length asked) 17)) ∷ row 13 (not (
 abbrev pub lengthReply : List ℕ → List ℕ → Reply Unit
 lengthReply asked answer = unless (lengthRows asked answer) (gives tt)
 
+-- what one record is answered, and what its answer then holds
+abbrev pub oneReply : List ℕ → List ℕ → Reply Unit
+oneReply asked answer = unless (lengthRows asked answer) (mapped (λ _. tt) (replyTo asked))
+
+abbrev pub answered : List ℕ → List ℕ → List ℕ
+answered asked answer = leaves (lengthReply asked answer) (answerBytes (replyTo asked)) answer
+
 pub record One (asked answer : List ℕ) (r : Done) (answer′ : List ℕ) : Type 0 where
-  pub replies : meansDone r ≡ unless (lengthRows asked answer) (mapped (λ _. tt) (replyTo asked))
-  pub leaves-answer : answer′ ≡ leaves (lengthReply asked answer) (answerBytes (replyTo asked)) answer
+  pub replies : meansDone r ≡ oneReply asked answer
+  pub leaves-answer : answer′ ≡ answered asked answer
 
 -- ---- many records, one after the other, the last of them perhaps too short
 

@@ -9,7 +9,6 @@ use answers::Done;
 use answers::Refusal;
 use answers::U64;
 
-
 // The reply to a record, or to a tail that is too short to be one.
 fn reply_to(asked: &[u8]) -> U64
     ensures { λ r. ⌜ meansU64 r ≡ replyTo (now (asked .entry)) ⌝ }

@@ -18,21 +18,25 @@ mod int_sqrt;
 macro_rules! unsigned {
     ($($uint:ident: $isqrt:ident $ilog10:ident $extract:ident $deposit:ident;)+) => {$(
         /// The root of n, by `int_sqrt.rs`.
+        #[inline]
         pub fn $isqrt(n: $uint) -> $uint {
             int_sqrt::$uint(n)
         }
 
         /// The decimal log of v, by `int_log10.rs`; of 0 there is none.
+        #[inline]
         pub fn $ilog10(v: $uint) -> Option<u32> {
             NonZero::new(v).map(int_log10::$uint)
         }
 
         /// x gathered under the mask, by `int_bits.rs`.
+        #[inline]
         pub fn $extract(x: $uint, mask: $uint) -> $uint {
             int_bits::$uint::extract_impl(x, mask)
         }
 
         /// x scattered under the mask, by `int_bits.rs`.
+        #[inline]
         pub fn $deposit(x: $uint, mask: $uint) -> $uint {
             int_bits::$uint::deposit_impl(x, mask)
         }
@@ -49,11 +53,13 @@ unsigned! {
 macro_rules! signed {
     ($($int:ident, $uint:ident: $isqrt:ident $ilog10:ident;)+) => {$(
         /// The root of n, by `int_sqrt.rs` as `checked_isqrt` calls it; of a negative number there is none.
+        #[inline]
         pub fn $isqrt(n: $int) -> Option<$int> {
             (n >= 0).then(|| int_sqrt::$uint(n.cast_unsigned()).cast_signed())
         }
 
         /// The decimal log of v, by `int_log10.rs`; of a number that is not above 0 there is none.
+        #[inline]
         pub fn $ilog10(v: $int) -> Option<u32> {
             int_log10::$int(v)
         }

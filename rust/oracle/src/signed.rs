@@ -55,6 +55,7 @@ macro_rules! signed {
     ($($int:ident, $unsigned:ident;)+) => {$(
         #[rustfmt::skip]
         impl Given for $int {
+            #[inline]
             fn next_multiple_of(self, rhs: Self) -> Self {
                 // This would otherwise fail when calculating `r` when self == T::MIN.
                 if rhs == -1 {
@@ -75,6 +76,7 @@ macro_rules! signed {
                 }
             }
 
+            #[inline]
             fn checked_next_multiple_of(self, rhs: Self) -> Option<Self> {
                 // This would otherwise fail when calculating `r` when self == T::MIN.
                 if rhs == -1 {

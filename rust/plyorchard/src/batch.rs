@@ -2,49 +2,25 @@
 
 use crate::Refusal;
 
-/// A C function of a batch: source, mask, destination and place, each slice as a pointer and a count.
-type Batch = unsafe extern "C" fn(*const u64, usize, u64, *mut u64, usize, usize) -> u8;
-
-extern "C" {
-    fn ply_gather_batch(
-        source: *const u64,
-        words: usize,
-        mask: u64,
-        destination: *mut u64,
-        size: usize,
-        place: usize,
-    ) -> u8;
-    fn ply_scatter_batch(
-        source: *const u64,
-        words: usize,
-        mask: u64,
-        destination: *mut u64,
-        size: usize,
-        place: usize,
-    ) -> u8;
-}
-
-/// Calls either C function on two slices.
-fn call(
-    batch: Batch,
-    source: &[u64],
-    mask: u64,
-    destination: &mut [u64],
-    place: usize,
-) -> Result<(), Refusal> {
-    let (words, size) = (source.len(), destination.len());
-    // SAFETY: the archive has both functions with these types; the pointers and counts are those of two slices that do not
-    // overlap and are ours for the call, and the functions are proved to be safe on every such slices and every number.
-    Refusal::accepted(unsafe {
-        batch(
-            source.as_ptr(),
-            words,
-            mask,
-            destination.as_mut_ptr(),
-            size,
-            place,
-        )
-    })
+/// Calls the C function of a batch on two slices.
+macro_rules! call {
+    ($function:ident($source:ident, $mask:ident, $destination:ident, $place:ident)) => {{
+        extern "C" {
+            fn $function(
+                source: *const u64,
+                words: usize,
+                mask: u64,
+                destination: *mut u64,
+                size: usize,
+                place: usize,
+            ) -> u8;
+        }
+        let (from, words) = ($source.as_ptr(), $source.len());
+        let (to, size) = ($destination.as_mut_ptr(), $destination.len());
+        // SAFETY: the archive has the function with these types; the pointers and counts are those of two slices that do
+        // not overlap and are ours for the call, and the function is proved to be safe on all such slices and numbers.
+        Refusal::accepted(unsafe { $function(from, words, $mask, to, size, $place) })
+    }};
 }
 
 /// Writes each word of the source, gathered under `mask`, into the destination from `place` on.
@@ -67,7 +43,7 @@ pub fn gather_batch(
     destination: &mut [u64],
     place: usize,
 ) -> Result<(), Refusal> {
-    call(ply_gather_batch, source, mask, destination, place)
+    call!(ply_gather_batch(source, mask, destination, place))
 }
 
 /// Writes each word of the source, scattered under `mask`, into the destination from `place` on.
@@ -88,5 +64,5 @@ pub fn scatter_batch(
     destination: &mut [u64],
     place: usize,
 ) -> Result<(), Refusal> {
-    call(ply_scatter_batch, source, mask, destination, place)
+    call!(ply_scatter_batch(source, mask, destination, place))
 }

@@ -1,8 +1,6 @@
 -- `answer` is safe: what `many` says it wrote lies within the output.
 use mathlib.Core.Path.{sym, ap}
-use Prim.Native.Nat.{_≤_}
 use borrow.Author.Needs.{needs}
-use lib.ListN.{length}
 use lib.Seq.{length-take-le}
 use Rattle.answers.specs.Answers.{meansU64}
 use Rattle.records.proofs.Loop.{many-within}

@@ -1,7 +1,6 @@
 -- `fill` is safe and ends: each turn brings a byte at least. The invariant: the bytes read lie within the buffer.
-use mathlib.Core.Path.{_≡_, refl}
+use mathlib.Core.Path.{_≡_}
 use Prim.Native.Nat.{_-_, _≤_}
-use native.Mathlib.Omega.{arith}
 use borrow.Author.Needs.{needs}
 use lib.ListN.{length}
 use Rattle.record_program.proofs.fill.Statement.{statement}

@@ -1,7 +1,6 @@
 -- `main` is safe and ends: the turns are counted down. The invariant: the two buffers keep their lengths.
-use mathlib.Core.Path.{_≡_, refl}
+use mathlib.Core.Path.{_≡_}
 use borrow.Author.Needs.{needs}
-use native.Mathlib.Omega.{arith}
 use lib.ListN.{length}
 use Rattle.record_program.proofs.main.Statement.{statement}
 use Rattle.record_program.proofs.main.Tie as tie

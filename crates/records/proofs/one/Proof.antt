@@ -1,7 +1,6 @@
 -- `one` meets its contract: the two length tests, then the record's answer.
 use mathlib.Core.Path.{refl}
 use borrow.Author.Needs.{needs}
-use denote.Ref.{now}
 use Rattle.records.proofs.Calls.{one-no-record, one-no-answer, one-answered}
 use Rattle.records.proofs.one.Statement.{statement}
 use Rattle.records.proofs.one.Tie as tie

@@ -1,5 +1,5 @@
 -- `respond` meets its contract: the refusal's number a half byte up, and then the value's bytes.
-use mathlib.Core.Path.{_≡_, ap, sym, _∙_}
+use mathlib.Core.Path.{ap, sym, _∙_}
 use borrow.Author.Needs.{needs}
 use native.Mathlib.Omega.{arith}
 use denote.Ref.{now}

@@ -1,24 +1,15 @@
 -- `at_i8` meets its contract: each arm is its operation on the numbers that the bits stand for.
-use mathlib.Core.Path.{_≡_, ap, ap₂, _∙_}
+use mathlib.Core.Path.{refl, _∙_}
 use borrow.Author.Needs.{needs}
 use lib.Dec.{lit≤}
-use mir.Syntax.{w8}
-use mir.Val.{ofZ, toZ}
-use Rattle.laws.proofs.Held.{held}
-use Rattle.answers.specs.Reply.{mapped}
-use Rattle.int_sqrt.specs.Root.{rootOf}
-use Rattle.int_log10.specs.Log.{logOf}
-use Rattle.signed.specs.Signed.{remEuclid, nextMultiple}
 use Rattle.operations.specs.Operations.{widthOf}
-use Rattle.operations.proofs.Arms.{root-at, log-at, rem-at, next-at, cast-back, five}
+use Rattle.operations.proofs.Arms.{Cast, both-cast, signed-root, signed-log, signed-rem, signed-next, five}
 use Rattle.operations.proofs.widths.at_i8.Statement.{statement}
 use Rattle.operations.proofs.widths.at_i8.Tie as tie
 
-first : (c : tie.After-cast-signed2) → held w8 (c .before .cast-signed .result) ≡ toZ w8 (c .before .before .args .a)
-first c = cast-back w8 (c .before .before .args .a) (search needs) (c .before .cast-signed .ensures)
-
-second : (c : tie.After-cast-signed2) → held w8 (c .cast-signed2 .result) ≡ toZ w8 (c .before .before .args .b)
-second c = cast-back w8 (c .before .before .args .b) (search needs) (c .cast-signed2 .ensures)
+cast : (c : tie.After-cast-signed2) → Cast 4 (c .before .before .args .a) (c .before .before .args .b) (c .before .cast-signed .result) (c .cast-signed2 .result)
+unfolding widthOf
+cast c = both-cast 4 _ _ refl (search needs) (search needs) (c .before .cast-signed .ensures) (c .cast-signed2 .ensures)
 
 pub at-i8-spec : {M : Type 1} → statement M
 unfolding widthOf
@@ -35,7 +26,7 @@ at-i8-spec =
     (λ c κs. search needs)
     (λ c κs. search needs)
     (λ c κs. search needs)
-    (λ c. let m = c .before .before in root-at _ _ _ _ (m .match .keys1) (c .bits-i8 .ensures ∙ ap (mapped (ofZ w8)) (c .before .i8 .ensures ∙ ap rootOf (first (m .before)))))
-    (λ c. let m = c .before .before in log-at _ _ _ _ (m .match .keys2) (c .wide .ensures ∙ c .before .i82 .ensures ∙ ap logOf (first (m .before))))
-    (λ c. let m = c .before .before in rem-at _ _ _ _ (m .match .keys3) (c .bits-i82 .ensures ∙ ap (mapped (ofZ w8)) (c .before .rem-euclid .ensures ∙ ap₂ (remEuclid w8) (first (m .before)) (second (m .before)))))
-    (λ c. let m = c .before .before in next-at _ _ _ _ (five 4 (lit≤ tt) (m .before .before .before .pre) (m .match .rest)) (c .bits-i83 .ensures ∙ ap (mapped (ofZ w8)) (c .before .next-multiple-of .ensures ∙ ap₂ (nextMultiple w8) (first (m .before)) (second (m .before))))))
+    (λ c. let m = c .before .before in signed-root (cast (m .before)) _ (c .bits-i8 .ensures) (m .match .keys1) (c .before .i8 .ensures))
+    (λ c. let m = c .before .before in signed-log (cast (m .before)) _ (m .match .keys2) (c .wide .ensures ∙ c .before .i82 .ensures))
+    (λ c. let m = c .before .before in signed-rem (cast (m .before)) _ (c .bits-i82 .ensures) (m .match .keys3) (c .before .rem-euclid .ensures))
+    (λ c. let m = c .before .before in signed-next (cast (m .before)) _ (c .bits-i83 .ensures) (five 4 (lit≤ tt) (m .before .before .before .pre) (m .match .rest)) (c .before .next-multiple-of .ensures)))

@@ -3,11 +3,11 @@
 use mathlib.Core.Path.{_≡_, refl, sym, subst}
 use mathlib.Core.Bool.{Bool, true, false, cond, _&&_}
 use mathlib.Core.List.{List, [], _∷_}
-use Prim.Native.Nat.{ℕ, zero, suc, _+_, _*_, _^_, _≤_, _<_}
+use Prim.Native.Nat.{ℕ, zero, suc, _*_, _^_, _≤_, _<_}
 use native.Mathlib.Nat.{lt-of-lt-of-le}
 use native.Mathlib.Omega.{arith}
 use borrow.Author.Tests.{leb-false}
-use lib.Dec.{T, leb, ltb, eqb, lit<, lit≤, ltb→lt, leb→le}
+use lib.Dec.{T, leb, ltb, lit<, lit≤, ltb→lt, leb→le}
 use lib.ListN.{getD}
 use lib.Pow.{pow-pos, pow-mono}
 use lib.IntN.{ℤ, pos, negsuc, natAbs}
@@ -16,13 +16,12 @@ use mir.Syntax.{Width, w8, w16, w32, w64}
 use mir.Val.{bits, toZ, ofZ}
 use mir.ValLaws.{half-full, toZ-fits, ofZ-fits}
 use Rattle.laws.proofs.Table.{both, both-left, both-right}
-use Rattle.answers.specs.Reply.{Reply, gives, refused, refusalOf, natural, mapped, Row, row, unless}
+use Rattle.answers.specs.Reply.{Reply, gives, refusalOf, natural, mapped, Row, row, unless}
 use Rattle.answers.proofs.Rows.{Clear}
 use Rattle.int_sqrt.specs.Root.{root, rootOf}
 use Rattle.int_sqrt.proofs.Root.{root-is}
 use Rattle.int_log10.specs.Log.{log, logOf}
 use Rattle.int_log10.proofs.Log.{log-is}
-use Rattle.int_bits.specs.Gather.{count}
 use Rattle.int_bits.proofs.Count.{count-le}
 use Rattle.int_bits.proofs.Gather.{gather-lt, scatter-lt}
 use Rattle.signed.specs.Signed.{modZ, eqZ, minZ, outside, exact, next, remEuclid, nextMultiple}
