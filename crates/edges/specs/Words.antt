@@ -1,13 +1,15 @@
 -- The words of entries and of the slices that are lent to calls.
 use mathlib.Core.Path.{_≡_}
+use mathlib.Core.Bool.{cond}
 use mathlib.Core.List.{List}
-use Prim.Native.Nat.{ℕ, _+_, _*_, _%_, _^_, _<_}
+use Prim.Native.Nat.{ℕ, _+_, _*_, _/_, _%_, _^_, _<_}
+use lib.Dec.{ltb}
 use lib.ListN.{length, take, drop, getD}
 use Rattle.fields.specs.Fields.{number}
 
--- the word of an entry at an index: eight bytes, after those of the kind and the refusal
-abbrev pub wordAt : List ℕ → ℕ → ℕ
-wordAt entry i = number (take 8 (drop (8 * i + 2) entry)) % 2 ^ 64
+-- the word of an entry at an index: eight of its bytes; 0 where there are none
+unfoldable pub wordAt : List ℕ → ℕ → ℕ
+wordAt words i = cond (ltb i (length words / 8)) (number (take 8 (drop (8 * i) words)) % 2 ^ 64) 0
 
 -- the word at an index of a slice that is made from a seed: each is a step above the one before
 unfoldable pub madeAt : ℕ → ℕ → ℕ

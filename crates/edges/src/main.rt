@@ -10,9 +10,9 @@ mod names;
 mod numbers;
 mod replay;
 mod rows;
+mod slices;
 mod table;
 mod tally;
-mod words;
 
 use libc::STDIN_FILENO;
 

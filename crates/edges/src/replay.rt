@@ -9,12 +9,13 @@ use crate::table;
 use crate::tally::Tally;
 use libc::STDOUT_FILENO;
 
-fn is_right(kind: u8, entry: &[u8]) -> bool {
+// Whether a call of a kind gives the refusal, and the answer among the words.
+fn is_right(kind: u8, refusal: u8, words: &[u8]) -> bool {
     match kind {
-        0..=32 => numbers::is_right(entry),
-        33 | 34 => batch::is_right(entry),
-        35 => table::is_read_right(entry),
-        _ => table::is_write_right(entry),
+        0..=32 => numbers::is_right(kind, refusal, words),
+        33 | 34 => batch::is_right(kind, refusal, words),
+        35 => table::is_read_right(refusal, words),
+        _ => table::is_write_right(refusal, words),
     }
 }
 
@@ -44,9 +45,11 @@ fn one_kind(list: &[u8], from: usize, kind: u8) -> usize
     let mut tally = Tally::new();
     let mut at = from;
     let mut size = size_at(list, at, kind);
-    while size > 0 {
+    while size >= 2 {
+        let refusal = list[at + 1];
+        let start = at + 2;
         let end = at + size;
-        tally = tally.count(is_right(kind, &list[at..end]));
+        tally = tally.count(is_right(kind, refusal, &list[start..end]));
         at = end;
         size = size_at(list, at, kind);
     }

@@ -3,7 +3,7 @@
 mod edges;
 mod records;
 
-pub use edges::edges;
+pub use edges::{damaged_edges, edges};
 pub use records::records;
 
 /// What a program reads on standard input, and what it has to write.

@@ -24,7 +24,7 @@ rows, next multiple: 2 right, 0 wrong
 rows, guarded write: 3 right, 0 wrong
 ";
 
-/// The refusal or 0, and the words.
+/// The refusal or 0, and the words: a call's answer, and its arguments.
 struct Entry {
     refusal: u8,
     words: Vec<u64>,
@@ -53,9 +53,23 @@ impl Kind {
         entries.collect()
     }
 
-    /// The line that the program has to write: every answer right.
-    fn line(&self) -> String {
-        format!("{}: {} right, 0 wrong\n", self.name, self.entries.len())
+    /// The line that the program has to write where so many answers are wrong.
+    fn line(&self, wrong: usize) -> String {
+        let right = self.entries.len() - wrong;
+        format!("{}: {right} right, {wrong} wrong\n", self.name)
+    }
+
+    /// Damages two answers: the first refusal, and the last number or word that an accepted call gives.
+    fn damage(&mut self) {
+        self.entries[0].refusal ^= 1;
+        let accepted = self.entries.iter_mut().rfind(|entry| entry.refusal == 0);
+        let words = &mut accepted.expect("an accepted call").words;
+        let given = if self.name.ends_with("batch") {
+            words.len() - 1
+        } else {
+            0
+        };
+        words[given] ^= 1;
     }
 }
 
@@ -66,17 +80,28 @@ fn kinds() -> Vec<Kind> {
     kinds
 }
 
-/// The list of all entries, and a line for each kind.
-pub fn edges() -> List {
-    let kinds = kinds();
+/// A list of all entries, and a line for each kind, of which so many answers are wrong.
+fn list(kinds: &[Kind], wrong: usize) -> List {
     let stdin = (0..)
-        .zip(&kinds)
+        .zip(kinds)
         .flat_map(|(number, kind)| kind.bytes(number));
-    let lines: String = kinds.iter().map(Kind::line).collect();
+    let lines: String = kinds.iter().map(|kind| kind.line(wrong)).collect();
     List {
         stdin: stdin.collect(),
         stdout: format!("{ROWS}{lines}left over: 0 bytes\n").into(),
     }
+}
+
+/// The list that the program replays.
+pub fn edges() -> List {
+    list(&kinds(), 0)
+}
+
+/// The same list with two answers of each kind damaged.
+pub fn damaged_edges() -> List {
+    let mut kinds = kinds();
+    kinds.iter_mut().for_each(Kind::damage);
+    list(&kinds, 2)
 }
 
 #[cfg(test)]

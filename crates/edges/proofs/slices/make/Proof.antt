@@ -7,8 +7,8 @@ use borrow.Author.Needs.{needs}
 use lib.ListN.{length}
 use Rattle.edges.specs.Words.{madeAt}
 use Rattle.edges.proofs.Written.{Written, written-start, written-next, written-end}
-use Rattle.edges.proofs.words.make.Statement.{statement}
-use Rattle.edges.proofs.words.make.Tie as tie
+use Rattle.edges.proofs.slices.make.Statement.{statement}
+use Rattle.edges.proofs.slices.make.Tie as tie
 
 abbrev Inv-loop : tie.InvT-loop
 Inv-loop words₀ seed next₀ i₀ words next i = Written (madeAt seed) (length words₀) words i × (next ≡ madeAt seed i)

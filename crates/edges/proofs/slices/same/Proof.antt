@@ -8,8 +8,8 @@ use borrow.Author.Count.{below-none, below-more}
 use borrow.Author.Needs.{needs}
 use lib.ListN.{length, getD}
 use lib.Seq.{ext-getD}
-use Rattle.edges.proofs.words.same.Statement.{statement}
-use Rattle.edges.proofs.words.same.Tie as tie
+use Rattle.edges.proofs.slices.same.Statement.{statement}
+use Rattle.edges.proofs.slices.same.Tie as tie
 
 record Alike (a b : List ℕ) (i : ℕ) : Type 0 where
   lengths : length a ≡ length b

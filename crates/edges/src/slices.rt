@@ -1,8 +1,7 @@
-// The words of slices that are lent to calls.
+// Slices of words that are lent to calls.
 ghost use mathlib.Core.Path.{_≡_};
 ghost use mathlib.Core.Bool.{true};
-ghost use Prim.Native.Nat.{_+_, _*_, _≤_};
-ghost use lib.ListN.{length, set};
+ghost use lib.ListN.{set};
 ghost use Rattle.edges.specs.Words.{wordAt, madeAt, Each};
 use crate::entry::word;
 
@@ -19,14 +18,13 @@ pub fn make(words: &mut [u64], seed: u64)
     }
 }
 
-// Copies the words of an entry from an index on into a slice.
-pub fn copy(entry: &[u8], from: usize, words: &mut [u64])
-    requires { ⌜ 8 * (from + length (now words)) + 2 ≤ length (now entry) ⌝ }
-    ensures { λ _. ⌜ Each (λ i. wordAt (now (entry .entry)) (from + i)) (now (words .exit)) ⌝ }
+// Copies the words of an entry into a slice.
+pub fn copy(words: &[u8], into: &mut [u64])
+    ensures { λ _. ⌜ Each (wordAt (now (words .entry))) (now (into .exit)) ⌝ }
 {
     let mut i = 0;
-    while i < words.len() {
-        words[i] = word(entry, from + i);
+    while i < into.len() {
+        into[i] = word(words, i);
         i += 1;
     }
 }

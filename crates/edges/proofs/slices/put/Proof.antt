@@ -2,8 +2,8 @@
 use mathlib.Core.Path.{sym}
 use borrow.Author.Needs.{needs}
 use lib.Seq.{set-out}
-use Rattle.edges.proofs.words.put.Statement.{statement}
-use Rattle.edges.proofs.words.put.Tie as tie
+use Rattle.edges.proofs.slices.put.Statement.{statement}
+use Rattle.edges.proofs.slices.put.Tie as tie
 
 pub put-spec : {M : Type 1} → statement M
 put-spec =
