@@ -186,6 +186,11 @@ uint64_t ply_card_read_value(const uint64_t *table, size_t table_count, size_t c
 uint8_t ply_card_write(uint64_t *table, size_t table_count, size_t card, uint64_t mask,
                        uint64_t expected, uint64_t new_number);
 
+/* Answers a record of 17 bytes with 9. Gives the refusal, or 0: 13 where the record has not 17 bytes or the answer not
+ * 9, and then the answer stays; else 11, 12 or the operation's own, which is written into the answer as well.
+ * `oneReply` and `answered` in records/specs/Records. */
+uint8_t ply_record(const uint8_t *asked, size_t asked_count, uint8_t *answer, size_t answer_count);
+
 #ifdef __cplusplus
 }
 #endif

@@ -116,6 +116,30 @@ static void cards(void)
     REFUSES(ply_card_read, (table, 2, 1, 0), PLY_EMPTY_MASK);
 }
 
+/* The rules' whole case: three records and their answers; then lengths that are wrong. */
+static void records(void)
+{
+    const uint8_t asked[3][17] = {
+        {0x03, 0, 0, 0, 0, 0, 0, 0, 0x11},
+        {0x44, 0, 0, 0, 0, 0, 0, 0, 0xF9, 0, 0, 0, 0, 0, 0, 0, 0x04},
+        {0x54, 0, 0, 0, 0, 0, 0, 0, 0x7F, 0, 0, 0, 0, 0, 0, 0, 0x02},
+    };
+    uint8_t answer[9] = {0};
+
+    IS(ply_record(asked[0], 17, answer, 9), PLY_ACCEPTED);
+    IS(answer[0], 0x00);
+    IS(answer[8], 4);
+    IS(ply_record(asked[1], 17, answer, 9), PLY_ACCEPTED);
+    IS(answer[0], 0x00);
+    IS(answer[8], 1);
+    IS(ply_record(asked[2], 17, answer, 9), PLY_NO_FIT);
+    IS(answer[0], 0x40);
+    IS(answer[8], 0);
+    IS(ply_record(asked[0], 16, answer, 9), PLY_WRONG_LENGTH);
+    IS(ply_record(asked[0], 17, answer, 8), PLY_WRONG_LENGTH);
+    IS(answer[0], 0x40);
+}
+
 int main(void)
 {
     roots_and_logs();
@@ -123,6 +147,7 @@ int main(void)
     signed_forms();
     batches();
     cards();
+    records();
     printf("C: %u numbers compared, %u wrong\n", compared, wrong);
     return wrong != 0;
 }
