@@ -42,7 +42,7 @@ impl Random {
 }
 
 /// The lowest bits of a word, as many as the width.
-fn low(word: u64, width: u32) -> u64 {
+pub(crate) fn low(word: u64, width: u32) -> u64 {
     word & (u64::MAX >> (64 - width))
 }
 

@@ -6,10 +6,13 @@
 // The files under core/ name `crate::hint` and `crate::num`.
 use core::hint;
 
+pub mod batch;
 mod counter;
 mod inputs;
+pub mod lists;
 mod masks;
 mod num;
+pub mod record;
 mod signed;
 pub mod table;
 

@@ -1,26 +1,7 @@
 //! Batches through the C functions, compared with int_bits.rs on each word, refused ones among them.
 
-use oracle::{deposit_u64, extract_u64, masks, Counter, Random};
+use oracle::{batch::placed, deposit_u64, extract_u64, masks, Counter, Random};
 use plyorchard::{gather_batch, scatter_batch, Refusal};
-
-/// The refusal of a batch, as the rules have it.
-const NO_ROOM: u8 = 10;
-
-/// What a batch leaves of a destination, by the rules: each result in its place, if all of them fit.
-fn placed(
-    word: fn(u64, u64) -> u64,
-    source: &[u64],
-    mask: u64,
-    destination: &mut [u64],
-    place: usize,
-) -> Result<(), u8> {
-    let room = destination.get_mut(place..).ok_or(NO_ROOM)?;
-    let room = room.get_mut(..source.len()).ok_or(NO_ROOM)?;
-    for (result, x) in room.iter_mut().zip(source) {
-        *result = word(*x, mask);
-    }
-    Ok(())
-}
 
 type Batch = fn(&[u64], u64, &mut [u64], usize) -> Result<(), Refusal>;
 
