@@ -78,9 +78,17 @@ pub fn width(code: u8) -> u32 {
 }
 
 /// The operation at the type of a width code, if it is listed and takes that type.
-fn listed(operation: u8, code: u8) -> Option<Form> {
+fn form(operation: u8, code: u8) -> Option<Form> {
     let types = [u8, u16, u32, u64, i8, i16, i32, i64];
     types.get(usize::from(code))?(operation)
+}
+
+/// Each operation with each width code that it takes.
+pub fn listed() -> Vec<(u8, u8)> {
+    let heads = (0..16).flat_map(|operation| (0..16).map(move |code| (operation, code)));
+    heads
+        .filter(|(operation, code)| form(*operation, *code).is_some())
+        .collect()
 }
 
 /// Whether the operation takes one operand only: root and log do.
@@ -93,7 +101,7 @@ fn reply(record: &[u8]) -> Result<u64, u8> {
     let record: &[u8; RECORD] = record.try_into().map_err(|_| WRONG_LENGTH)?;
     let [head, operands @ ..] = record;
     let (operation, code) = (head >> 4, head & 15);
-    let form = listed(operation, code).ok_or(NO_OPERATION)?;
+    let form = form(operation, code).ok_or(NO_OPERATION)?;
     let number = |bytes: &[u8]| bytes.iter().fold(0, |n, byte| n << 8 | u64::from(*byte));
     let (a, b) = (number(&operands[..8]), number(&operands[8..]));
     let too_wide = |word: u64| word > u64::MAX >> (64 - width(code));
@@ -139,6 +147,15 @@ mod tests {
                        54 000000000000007F 0000000000000002";
         let right = "00 0000000000000004 00 0000000000000001 40 0000000000000000";
         assert_eq!(answers(&bytes(records)), bytes(right));
+    }
+
+    #[test]
+    fn the_operations_take_the_widths_that_the_rules_list() {
+        let codes = |operation| listed().into_iter().filter(move |x| x.0 == operation);
+        let taken = (0..16).map(|operation| codes(operation).map(|x| x.1).collect::<Vec<_>>());
+        let [all, unsigned, signed]: [Vec<u8>; 3] = [0..8, 0..4, 4..8].map(Iterator::collect);
+        let six = [&all, &all, &unsigned, &unsigned, &signed, &signed];
+        assert!(taken.eq(six.into_iter().cloned().chain(vec![vec![]; 10])));
     }
 
     #[test]

@@ -20,6 +20,7 @@ mod bits;
 mod calls;
 mod cards;
 mod log;
+mod record;
 mod refusal;
 mod root;
 mod signed;
@@ -34,6 +35,7 @@ pub use cards::{card_read, card_write};
 #[doc(hidden)]
 pub use log::digit_count_answer;
 pub use log::{digit_count, ilog10, Log10};
+pub use record::record;
 pub use refusal::Refusal;
 pub use root::{isqrt, Root};
 pub use signed::{next_multiple_of, rem_euclid, strict_abs, strict_add, strict_neg, strict_sub};

@@ -1,7 +1,7 @@
 //! The records that `record_program` answers.
 
 use super::{extreme_pairs, extremes, List};
-use crate::record::{answers, one_operand, width};
+use crate::record::{answers, listed, one_operand, width};
 use crate::{masks, powers_of_ten, Random};
 
 /// How many records each operation has at each of its types.
@@ -9,14 +9,6 @@ const EACH: usize = 128;
 
 /// The rules' whole case, as operation, width code, a and b.
 const WHOLE_CASE: [(u8, u8, u64, u64); 3] = [(0, 3, 0x11, 0), (4, 4, 0xF9, 4), (5, 4, 0x7F, 2)];
-
-/// The operations, with the width codes that each takes.
-fn listed() -> impl Iterator<Item = (u8, u8)> {
-    let codes = [0..8, 0..8, 0..4, 0..4, 4..8, 4..8];
-    (0..)
-        .zip(codes)
-        .flat_map(|(operation, codes)| codes.map(move |code| (operation, code)))
-}
 
 /// A record's 17 bytes.
 fn record((operation, code, a, b): (u8, u8, u64, u64)) -> Vec<u8> {
@@ -89,7 +81,7 @@ fn operands(random: &mut Random, operation: u8, code: u8) -> Vec<(u64, u64)> {
 /// and with operands that are all ones, and a tail that is one byte short of a record.
 pub fn records() -> List {
     let mut random = Random::new(20);
-    let each = listed().flat_map(|(operation, code)| {
+    let each = listed().into_iter().flat_map(|(operation, code)| {
         let operands = operands(&mut random, operation, code);
         operands
             .into_iter()
