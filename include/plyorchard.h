@@ -9,7 +9,7 @@
  *
  * A lent slice is a pointer and then a count of words or bytes. It is the caller's to see that the pointer is aligned,
  * not NULL even where the count is 0, and reaches that many; that nothing else uses the slice during the call; and that
- * a slice which the call may write overlaps no other. A refused call changes no slice.
+ * a slice which the call may write overlaps no other. A refused call changes no slice, but for `ply_record`'s answer.
  */
 #ifndef PLYORCHARD_H
 #define PLYORCHARD_H
@@ -185,6 +185,11 @@ uint64_t ply_card_read_value(const uint64_t *table, size_t table_count, size_t c
  * refusal, 5 to 9, or 0. `writeReply` and `written` in cards/specs/Table. */
 uint8_t ply_card_write(uint64_t *table, size_t table_count, size_t card, uint64_t mask,
                        uint64_t expected, uint64_t new_number);
+
+/* Answers one record: 17 bytes in, 9 bytes out (docs/RULES.md, Records). Gives the refusal or 0. With 13, for a length
+ * that is another, the answer stays; every other refusal is written into it too.
+ * `oneReply` and `answered` in records/specs/Records. */
+uint8_t ply_record(const uint8_t *asked, size_t asked_count, uint8_t *answer, size_t answer_count);
 
 #ifdef __cplusplus
 }

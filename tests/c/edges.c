@@ -116,6 +116,42 @@ static void cards(void)
     REFUSES(ply_card_read, (table, 2, 1, 0), PLY_EMPTY_MASK);
 }
 
+/* The number in the last 8 bytes of an answer, most significant first. */
+static uint64_t value(const uint8_t answer[9])
+{
+    uint64_t number = 0;
+
+    for (int i = 1; i < 9; i++)
+        number = number << 8 | answer[i];
+    return number;
+}
+
+/* One record, what is returned, and the answer's first byte and number. */
+#define ANSWERS(asked, refusal, first, number) \
+    IS(ply_record(asked, 17, answer, 9), refusal), IS(answer[0], first), IS(value(answer), number)
+
+static void records(void)
+{
+    static const uint8_t root[17] = {0x03, [8] = 0x11};
+    static const uint8_t remainder[17] = {0x44, [8] = 0xF9, [16] = 0x04};
+    static const uint8_t next[17] = {0x54, [8] = 0x7F, [16] = 0x02};
+    static const uint8_t no_operation[17] = {0x60};
+    static const uint8_t wide[17] = {0x00, [7] = 0x01};
+    uint8_t answer[9];
+
+    ANSWERS(root, PLY_ACCEPTED, 0x00, 4);
+    ANSWERS(remainder, PLY_ACCEPTED, 0x00, 1);
+    ANSWERS(next, PLY_NO_FIT, 0x40, 0);
+    ANSWERS(no_operation, PLY_NO_OPERATION, 0xB0, 0);
+    ANSWERS(wide, PLY_BAD_OPERAND, 0xC0, 0);
+
+    ANSWERS(root, PLY_ACCEPTED, 0x00, 4);
+    IS(ply_record(next, 16, answer, 9), PLY_WRONG_LENGTH);
+    IS(ply_record(next, 17, answer, 8), PLY_WRONG_LENGTH);
+    IS(answer[0], 0x00);
+    IS(value(answer), 4);
+}
+
 int main(void)
 {
     roots_and_logs();
@@ -123,6 +159,7 @@ int main(void)
     signed_forms();
     batches();
     cards();
+    records();
     printf("C: %u numbers compared, %u wrong\n", compared, wrong);
     return wrong != 0;
 }
