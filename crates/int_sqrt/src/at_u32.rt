@@ -11,14 +11,14 @@ const LOWER_HALF_1_BITS: u32 = (1 << HALF_BITS) - 1;
 const LOWEST_QUARTER_1_BITS: u32 = (1 << QUARTER_BITS) - 1;
 
 // A root and its remainder.
-pub struct WithRemainder {
-    pub s: u32,
-    pub r: u32,
+pub(super) struct WithRemainder {
+    pub(super) s: u32,
+    pub(super) r: u32,
 }
 
 // The root and remainder of n, from those of its upper half. The difference may borrow and wrap: then s is one too high, and the repair,
 // which wraps back, gives the exact remainder of s - 1.
-pub fn middle_stage(n: u32, s: u16, r: u16) -> WithRemainder
+pub(super) fn middle_stage(n: u32, s: u16, r: u16) -> WithRemainder
     requires { ⌜ (2 ^ 30 ≤ n) × Remainder (n / 2 ^ 16) s r ⌝ }
     ensures { λ p. ⌜ Remainder n (p .s) (p .r) ⌝ }
 {
@@ -41,7 +41,7 @@ pub fn middle_stage(n: u32, s: u16, r: u16) -> WithRemainder
 }
 
 // The root of n, from the root and remainder of its upper half. The only square that overflows is that of 2^HALF_BITS, and it is too high.
-pub fn last_stage(n: u32, s: u16, r: u16) -> u32
+pub(super) fn last_stage(n: u32, s: u16, r: u16) -> u32
     requires { ⌜ (2 ^ 30 ≤ n) × Remainder (n / 2 ^ 16) s r ⌝ }
     ensures { λ s. ⌜ Root n s ⌝ }
 {

@@ -9,7 +9,7 @@ const QUARTER_BITS: u64 = 64 >> 2;
 const LOWER_HALF_1_BITS: u64 = (1 << HALF_BITS) - 1;
 
 // The root of n, from the root and remainder of its upper half. The only square that overflows is that of 2^HALF_BITS, and it is too high.
-pub fn last_stage(n: u64, s: u32, r: u32) -> u64
+pub(super) fn last_stage(n: u64, s: u32, r: u32) -> u64
     requires { ⌜ (2 ^ 62 ≤ n) × Remainder (n / 2 ^ 32) s r ⌝ }
     ensures { λ s. ⌜ Root n s ⌝ }
 {

@@ -1,7 +1,7 @@
 // The root of each byte and what is left beyond its square: `U8_ISQRT_WITH_REMAINDER` as two tables.
 ghost use Rattle.int_sqrt.specs.Root.{Remainder};
 
-pub const U8_ISQRT: [u8; 256] = [
+pub(super) const U8_ISQRT: [u8; 256] = [
     0,
     1,
     1,
@@ -260,7 +260,7 @@ pub const U8_ISQRT: [u8; 256] = [
     15,
 ];
 
-pub const U8_REMAINDER: [u8; 256] = [
+pub(super) const U8_REMAINDER: [u8; 256] = [
     0,
     0,
     1,
@@ -520,13 +520,13 @@ pub const U8_REMAINDER: [u8; 256] = [
 ];
 
 // A root and its remainder.
-pub struct WithRemainder {
-    pub s: u8,
-    pub r: u8,
+pub(super) struct WithRemainder {
+    pub(super) s: u8,
+    pub(super) r: u8,
 }
 
 // The root and remainder of the top byte.
-pub fn first_stage(n: u8) -> WithRemainder
+pub(super) fn first_stage(n: u8) -> WithRemainder
     ensures { λ p. ⌜ Remainder n (p .s) (p .r) ⌝ }
 {
     let i = n as usize;

@@ -60,7 +60,7 @@ fn bits_i64(x: I64) -> U64
 }
 
 // Root, log, gather and scatter are operations 0 to 3.
-pub fn at_u8(op: u8, a: u8, b: u8) -> U64
+pub(super) fn at_u8(op: u8, a: u8, b: u8) -> U64
     requires { ⌜ takes op 0 ≡ true ⌝ }
     ensures { λ r. ⌜ meansU64 r ≡ operation op 0 a b ⌝ }
 {
@@ -72,7 +72,7 @@ pub fn at_u8(op: u8, a: u8, b: u8) -> U64
     }
 }
 
-pub fn at_u16(op: u8, a: u16, b: u16) -> U64
+pub(super) fn at_u16(op: u8, a: u16, b: u16) -> U64
     requires { ⌜ takes op 1 ≡ true ⌝ }
     ensures { λ r. ⌜ meansU64 r ≡ operation op 1 a b ⌝ }
 {
@@ -84,7 +84,7 @@ pub fn at_u16(op: u8, a: u16, b: u16) -> U64
     }
 }
 
-pub fn at_u32(op: u8, a: u32, b: u32) -> U64
+pub(super) fn at_u32(op: u8, a: u32, b: u32) -> U64
     requires { ⌜ takes op 2 ≡ true ⌝ }
     ensures { λ r. ⌜ meansU64 r ≡ operation op 2 a b ⌝ }
 {
@@ -96,7 +96,7 @@ pub fn at_u32(op: u8, a: u32, b: u32) -> U64
     }
 }
 
-pub fn at_u64(op: u8, a: u64, b: u64) -> U64
+pub(super) fn at_u64(op: u8, a: u64, b: u64) -> U64
     requires { ⌜ takes op 3 ≡ true ⌝ }
     ensures { λ r. ⌜ meansU64 r ≡ operation op 3 a b ⌝ }
 {
@@ -109,7 +109,7 @@ pub fn at_u64(op: u8, a: u64, b: u64) -> U64
 }
 
 // Root, log, remainder and next multiple are operations 0, 1, 4 and 5.
-pub fn at_i8(op: u8, a: u8, b: u8) -> U64
+pub(super) fn at_i8(op: u8, a: u8, b: u8) -> U64
     requires { ⌜ takes op 4 ≡ true ⌝ }
     ensures { λ r. ⌜ meansU64 r ≡ operation op 4 a b ⌝ }
 {
@@ -123,7 +123,7 @@ pub fn at_i8(op: u8, a: u8, b: u8) -> U64
     }
 }
 
-pub fn at_i16(op: u8, a: u16, b: u16) -> U64
+pub(super) fn at_i16(op: u8, a: u16, b: u16) -> U64
     requires { ⌜ takes op 5 ≡ true ⌝ }
     ensures { λ r. ⌜ meansU64 r ≡ operation op 5 a b ⌝ }
 {
@@ -137,7 +137,7 @@ pub fn at_i16(op: u8, a: u16, b: u16) -> U64
     }
 }
 
-pub fn at_i32(op: u8, a: u32, b: u32) -> U64
+pub(super) fn at_i32(op: u8, a: u32, b: u32) -> U64
     requires { ⌜ takes op 6 ≡ true ⌝ }
     ensures { λ r. ⌜ meansU64 r ≡ operation op 6 a b ⌝ }
 {
@@ -151,7 +151,7 @@ pub fn at_i32(op: u8, a: u32, b: u32) -> U64
     }
 }
 
-pub fn at_i64(op: u8, a: u64, b: u64) -> U64
+pub(super) fn at_i64(op: u8, a: u64, b: u64) -> U64
     requires { ⌜ takes op 7 ≡ true ⌝ }
     ensures { λ r. ⌜ meansU64 r ≡ operation op 7 a b ⌝ }
 {
