@@ -5,18 +5,11 @@
  * end, to break no rule of the language and to give the number of the definition that is named beside it, in a file
  * below crates/; so no number has to be checked first.
  *
- * A number form that can be refused has two functions: `_refusal` gives the refusal's number or 0, `_value` the value or
- * 0. A call that writes a slice comes alone and returns the refusal's number or 0. A refused call changes no slice, but
- * for `ply_record`'s answer.
+ * A form that can be refused has two functions: `_refusal` gives the refusal's number or 0, `_value` the value or 0.
  *
- * What a caller owes is valid slices, nothing else. A lent slice is a pointer and then a count of words or bytes. It is
- * valid if the pointer is aligned for its type and not NULL, and as many words or bytes as the count says, from the
- * pointer on, are memory of one object that nothing else writes during the call. Those that the call may write (the
- * pointer is not to const), nothing else may read either, and they overlap no other slice or lent number of the call.
- * With count 0 nothing is read or written, and any aligned pointer but NULL is valid. A lent number is a valid pointer
- * to one number that the call may write, a lent array one to as many as its brackets say; they overlap no slice of the
- * call and not each other, and they are set on every call. A stream's state is a lent array of exactly 17 bytes, set
- * before the first call (zeros), which the call reads, and writes where it is accepted.
+ * A lent slice is a pointer and then a count of words or bytes. It is the caller's to see that the pointer is aligned,
+ * not NULL even where the count is 0, and reaches that many; that nothing else uses the slice during the call; and that
+ * a slice which the call may write overlaps no other. A refused call changes no slice, but for `ply_record`'s answer.
  */
 #ifndef PLYORCHARD_H
 #define PLYORCHARD_H
@@ -28,24 +21,22 @@
 extern "C" {
 #endif
 
-/* Why a call is refused. Where several apply: 3 before 4; 5, 6, 7, 8, 9, 17; 13, 11, 12, then the operation's own; in a
- * journal 13, 11, 7, 8; of a stream 13, 10. */
+/* Why a call is refused. Where several apply: 3 before 4; 5, 6, 7, 8, 9; 13, 11, 12, then the operation's own. */
 enum ply_refusal {
     PLY_ACCEPTED = 0,
     PLY_NEGATIVE_ROOT = 1,  /* root of a negative number */
-    PLY_NO_LOG = 2,         /* log of a number that is not above 0 */
+    PLY_NO_LOG = 2,         /* log or digit count of a number that is not above 0 */
     PLY_DIVISOR_ZERO = 3,   /* divisor 0 */
     PLY_NO_FIT = 4,         /* the exact result does not fit, or remainder of MIN by -1 */
     PLY_TABLE_TOO_LONG = 5, /* card table longer than 4,096 words */
     PLY_NO_SUCH_CARD = 6,   /* card index not below the table's length */
-    PLY_EMPTY_MASK = 7,     /* mask of a table call, or of a journal's entry, is 0 */
-    PLY_TOO_WIDE = 8,       /* expected, old or new number has more bits than the mask has ones */
-    PLY_DIFFERS = 9,        /* the gathered field differs from the expected number; it carries what is there */
-    PLY_NO_ROOM = 10,       /* a batch, or answers to records, do not fit their destination */
-    PLY_NO_OPERATION = 11,  /* record: operation not listed, or a width it does not take; journal: kind not 1 */
+    PLY_EMPTY_MASK = 7,     /* table mask is 0 */
+    PLY_TOO_WIDE = 8,       /* expected or new number has more bits than the mask has ones */
+    PLY_DIFFERS = 9,        /* the gathered field differs from the expected number */
+    PLY_NO_ROOM = 10,       /* batch does not fit its destination */
+    PLY_NO_OPERATION = 11,  /* record: operation not listed, or a width it does not take */
     PLY_BAD_OPERAND = 12,   /* record: operand has bits above its width, or an unused operand is not 0 */
-    PLY_WRONG_LENGTH = 13,  /* record or answer of wrong length, a journal's tail of 1 to 25 bytes, a stream's count > 16 */
-    PLY_JOURNAL_FULL = 17   /* journal: no 26 bytes left for an entry, or a place past the end */
+    PLY_WRONG_LENGTH = 13   /* record or answer of wrong length */
 };
 
 /* The square root: the s with s*s <= n < (s+1)*(s+1). Never refused. `root` in int_sqrt/specs/Root. */
@@ -83,9 +74,9 @@ uint32_t ply_ilog10_i32_value(int32_t v);
 uint8_t ply_ilog10_i64_refusal(int64_t v);
 uint32_t ply_ilog10_i64_value(int64_t v);
 
-/* How many decimal digits v is printed with: 1 for 0, else the log plus one. Never refused.
- * `digitCount` in int_log10/specs/Log. */
-uint32_t ply_digit_count(uint64_t v);
+/* How many decimal digits v has, refused with 2 for 0. `digitCount` in int_log10/specs/Log. */
+uint8_t ply_digit_count_refusal(uint64_t v);
+uint32_t ply_digit_count_value(uint64_t v);
 
 /* The bits of x at the ones of the mask, from the lowest up, as bits 0, 1, 2 and so on; the rest is 0. Never refused.
  * `gather` in int_bits/specs/Gather. */
@@ -185,47 +176,20 @@ uint8_t ply_gather_batch(const uint64_t *source, size_t source_count, uint64_t m
 uint8_t ply_scatter_batch(const uint64_t *source, size_t source_count, uint64_t mask,
                           uint64_t *destination, size_t destination_count, size_t place);
 
-/* The number in a card's field: the card's word gathered under the mask. Gives the refusal, 5, 6 or 7, or 0, and sets the
- * number on every call, to 0 where it is refused. `ToldRead` in cards/specs/Told. */
-uint8_t ply_card_read(const uint64_t *table, size_t table_count, size_t card, uint64_t mask, uint64_t *number);
-
-/* The same in two calls, between which another till may write. `readReply` in cards/specs/Table. */
+/* The number in a card's field: the card's word gathered under the mask. Refused with 5, 6 or 7.
+ * `readReply` in cards/specs/Table. */
 uint8_t ply_card_read_refusal(const uint64_t *table, size_t table_count, size_t card, uint64_t mask);
 uint64_t ply_card_read_value(const uint64_t *table, size_t table_count, size_t card, uint64_t mask);
 
 /* Puts a new number into a card's field if the field holds the expected one, and changes no other bit. Gives the
- * refusal, 5 to 9, or 0, and sets what was found on every call: after refusal 9 to the number in the field, which a read
- * would give, and else to 0. `ToldChange` in cards/specs/Told. */
+ * refusal, 5 to 9, or 0. `writeReply` and `written` in cards/specs/Table. */
 uint8_t ply_card_write(uint64_t *table, size_t table_count, size_t card, uint64_t mask,
-                       uint64_t expected, uint64_t new_number, uint64_t *found);
-
-/* The same write, which also puts its entry of 26 bytes into the journal, from the place on: kind 1 (4 bits), card (12),
- * mask, old and new number (64 each), most significant bit first. Every other byte stays. Gives the refusal, 5 to 9, then
- * 17 where fewer than 26 bytes remain or the place is past the end, or 0, and sets what was found likewise.
- * `ToldJournals` in journal/specs/Told. */
-uint8_t ply_journal_write(uint64_t *table, size_t table_count, uint8_t *journal, size_t journal_count, size_t place,
-                          size_t card, uint64_t mask, uint64_t expected, uint64_t new_number, uint64_t *found);
-
-/* What stands at a place of a journal's written part. Gives the refusal, 13, 11, 7 or 8, or 0, and sets the entry on every
- * call: to the place after it, its card, mask, old and new number; where none is handed out, to the place as it was and
- * four zeros. So the end, where no byte is left, is 0 with the place as it was. `ToldHands` in journal/specs/Told. */
-uint8_t ply_journal_read(const uint8_t *journal, size_t journal_count, size_t place, uint64_t entry[5]);
+                       uint64_t expected, uint64_t new_number);
 
 /* Answers one record: 17 bytes in, 9 bytes out (docs/RULES.md, Records). Gives the refusal or 0. With 13, for a length
  * that is another, the answer stays; every other refusal is written into it too.
  * `oneReply` and `answered` in records/specs/Records. */
 uint8_t ply_record(const uint8_t *asked, size_t asked_count, uint8_t *answer, size_t answer_count);
-
-/* Records that come in fragments (docs/RULES.md, Records in fragments). The state is what is kept between calls: 16 bytes,
- * and then how many of them count; all zeros is fresh, and a call stores the next state where it is accepted. The first
- * function takes a fragment of any length and writes the answers to the records that it completes from the front of the
- * output. The second is the end of the input: it writes the answer with 13 if bytes are left over, and the state is then
- * fresh. Both give the refusal, 13 for a count above 16, then 10 where the answers lack room, or 0, and set `written` to
- * how many bytes they wrote, 0 where refused.
- * `ToldFeed` and `ToldEnd` in stream/specs/Packed. */
-uint8_t ply_stream_feed(uint8_t state[17], const uint8_t *fragment, size_t fragment_count,
-                        uint8_t *output, size_t output_count, size_t *written);
-uint8_t ply_stream_end(uint8_t state[17], uint8_t *output, size_t output_count, size_t *written);
 
 #ifdef __cplusplus
 }

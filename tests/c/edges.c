@@ -41,10 +41,8 @@ static void roots_and_logs(void)
     GIVES(ply_ilog10_u32, (100000), 5);
     GIVES(ply_ilog10_u64, (UINT64_MAX), 19);
     REFUSES(ply_ilog10_i64, (INT64_MIN), PLY_NO_LOG);
-    IS(ply_digit_count(0), 1);
-    IS(ply_digit_count(9), 1);
-    IS(ply_digit_count(10), 2);
-    IS(ply_digit_count(UINT64_MAX), 20);
+    GIVES(ply_digit_count, (UINT64_MAX), 20);
+    REFUSES(ply_digit_count, (0), PLY_NO_LOG);
 }
 
 static void bits(void)
@@ -97,75 +95,25 @@ static void batches(void)
     IS(destination[3], 7);
 }
 
-/* A read of the table, by the one call, which is lent another number than the right one, and by the pair. */
-#define READS(words, card, mask, refusal, value) \
-    number = ~(uint64_t)(value), IS(ply_card_read(table, words, card, mask, &number), refusal), IS(number, value), \
-    IS(ply_card_read_refusal(table, words, card, mask), refusal), IS(ply_card_read_value(table, words, card, mask), value)
-
-/* A write and what it finds, which held another number before; `found` is the caller's. */
-#define WRITES(what, operands, refusal, number) \
-    found = ~(uint64_t)(number), IS(ply_##what##_write operands, refusal), IS(found, number)
-
 static void cards(void)
 {
     static uint64_t table[4097] = {0xFF00, 0x1234};
-    uint64_t number;
-    uint64_t found;
 
-    READS(2, 0, 0x0FF0, PLY_ACCEPTED, 0xF0);
-    WRITES(card, (table, 2, 0, 0x0FF0, 0xF0, 0x0A, &found), PLY_ACCEPTED, 0);
+    GIVES(ply_card_read, (table, 2, 0, 0x0FF0), 0xF0);
+    IS(ply_card_write(table, 2, 0, 0x0FF0, 0xF0, 0x0A), PLY_ACCEPTED);
     IS(table[0], 0xF0A0);
-    WRITES(card, (table, 2, 0, 0x0FF0, 0xF0, 0x0A, &found), PLY_DIFFERS, 0x0A);
-    WRITES(card, (table, 2, 0, 0x0FF0, 0x0A, 0x100, &found), PLY_TOO_WIDE, 0);
-    WRITES(card, (table, 2, 0, 0, 0x0A, 0x0A, &found), PLY_EMPTY_MASK, 0);
-    WRITES(card, (table, 2, 2, 0x0FF0, 0, 0, &found), PLY_NO_SUCH_CARD, 0);
-    WRITES(card, (table, 4097, 0, 0x0FF0, 0x0A, 0, &found), PLY_TABLE_TOO_LONG, 0);
+    IS(ply_card_write(table, 2, 0, 0x0FF0, 0xF0, 0x0A), PLY_DIFFERS);
+    IS(ply_card_write(table, 2, 0, 0x0FF0, 0x0A, 0x100), PLY_TOO_WIDE);
+    IS(ply_card_write(table, 2, 0, 0, 0x0A, 0x0A), PLY_EMPTY_MASK);
+    IS(ply_card_write(table, 2, 2, 0x0FF0, 0, 0), PLY_NO_SUCH_CARD);
+    IS(ply_card_write(table, 4097, 0, 0x0FF0, 0x0A, 0), PLY_TABLE_TOO_LONG);
     IS(table[0], 0xF0A0);
     IS(table[1], 0x1234);
 
-    READS(4096, 1, UINT64_MAX, PLY_ACCEPTED, 0x1234);
-    READS(4097, 1, UINT64_MAX, PLY_TABLE_TOO_LONG, 0);
-    READS(1, 1, UINT64_MAX, PLY_NO_SUCH_CARD, 0);
-    READS(2, 1, 0, PLY_EMPTY_MASK, 0);
-}
-
-/* What stands at a place of a journal; the array that is lent holds other numbers before. */
-#define HANDS(bytes, place, refusal, after, card, mask, old, new_number) \
-    entry[0] = entry[1] = entry[2] = entry[3] = entry[4] = 99, \
-    IS(ply_journal_read(journal, bytes, place, entry), refusal), IS(entry[0], after), IS(entry[1], card), \
-    IS(entry[2], mask), IS(entry[3], old), IS(entry[4], new_number)
-
-static void journals(void)
-{
-    uint64_t table[2] = {0x1234, 0xFF00};
-    uint8_t journal[60] = {[26] = 7};
-    uint64_t entry[5];
-    uint64_t found;
-
-    WRITES(journal, (table, 2, journal, 60, 0, 1, 0x0FF0, 0xF0, 0x0A, &found), PLY_ACCEPTED, 0);
-    IS(table[1], 0xF0A0);
-    IS(journal[0], 0x10);
-    IS(journal[1], 0x01);
-    IS(journal[17], 0xF0);
-    IS(journal[25], 0x0A);
-    IS(journal[26], 7);
-    HANDS(26, 0, PLY_ACCEPTED, 26, 1, 0x0FF0, 0xF0, 0x0A);
-    HANDS(26, 26, PLY_ACCEPTED, 26, 0, 0, 0, 0);
-    HANDS(26, SIZE_MAX, PLY_ACCEPTED, SIZE_MAX, 0, 0, 0, 0);
-    HANDS(27, 26, PLY_WRONG_LENGTH, 26, 0, 0, 0, 0);
-    HANDS(60, 26, PLY_NO_OPERATION, 26, 0, 0, 0, 0);
-
-    WRITES(journal, (table, 2, journal, 60, 35, 1, 0x0FF0, 0x0A, 0, &found), PLY_JOURNAL_FULL, 0);
-    WRITES(journal, (table, 2, journal, 60, SIZE_MAX, 1, 0x0FF0, 0x0A, 0, &found), PLY_JOURNAL_FULL, 0);
-    WRITES(journal, (table, 2, journal, 60, SIZE_MAX, 1, 0x0FF0, 0xF0, 0, &found), PLY_DIFFERS, 0x0A);
-    IS(table[1], 0xF0A0);
-    WRITES(journal, (table, 2, journal, 60, 34, 1, 0x0FF0, 0x0A, 0, &found), PLY_ACCEPTED, 0);
-    IS(table[1], 0xF000);
-
-    journal[2 + 6] = journal[2 + 7] = 0;
-    HANDS(26, 0, PLY_EMPTY_MASK, 0, 0, 0, 0, 0);
-    journal[2 + 7] = 1;
-    HANDS(26, 0, PLY_TOO_WIDE, 0, 0, 0, 0, 0);
+    GIVES(ply_card_read, (table, 4096, 1, UINT64_MAX), 0x1234);
+    REFUSES(ply_card_read, (table, 4097, 1, UINT64_MAX), PLY_TABLE_TOO_LONG);
+    REFUSES(ply_card_read, (table, 1, 1, UINT64_MAX), PLY_NO_SUCH_CARD);
+    REFUSES(ply_card_read, (table, 2, 1, 0), PLY_EMPTY_MASK);
 }
 
 /* The number in the last 8 bytes of an answer, most significant first. */
@@ -204,47 +152,6 @@ static void records(void)
     IS(value(answer), 4);
 }
 
-/* A call on a stream, what is returned, and how many bytes it says that it wrote. */
-#define WRITES(call, refusal, size) written = 77, IS(call, refusal), IS(written, size)
-
-static void streams(void)
-{
-    static const uint8_t input[18] = {0x03, [8] = 0x11, [17] = 0x54};
-    uint8_t state[17] = {0};
-    uint8_t answer[10] = {[9] = 0xA5};
-    size_t written;
-
-    WRITES(ply_stream_feed(state, input, 16, answer, 0, &written), PLY_ACCEPTED, 0);
-    IS(state[16], 16);
-    WRITES(ply_stream_feed(state, input, 0, answer, 0, &written), PLY_ACCEPTED, 0);
-    IS(state[16], 16);
-    WRITES(ply_stream_feed(state, input + 16, 2, answer, 8, &written), PLY_NO_ROOM, 0);
-    IS(state[16], 16);
-    IS(answer[8], 0);
-    WRITES(ply_stream_feed(state, input + 16, 2, answer, 10, &written), PLY_ACCEPTED, 9);
-    IS(answer[0], 0x00);
-    IS(value(answer), 4);
-    IS(answer[9], 0xA5);
-    IS(state[0], 0x54);
-    IS(state[1], 0);
-    IS(state[16], 1);
-
-    WRITES(ply_stream_end(state, answer, 8, &written), PLY_NO_ROOM, 0);
-    IS(state[16], 1);
-    WRITES(ply_stream_end(state, answer, 9, &written), PLY_ACCEPTED, 9);
-    IS(answer[0], 0xD0);
-    IS(value(answer), 0);
-    IS(state[0], 0);
-    IS(state[16], 0);
-    WRITES(ply_stream_end(state, answer, 0, &written), PLY_ACCEPTED, 0);
-
-    state[16] = 17;
-    WRITES(ply_stream_feed(state, input, 17, answer, 10, &written), PLY_WRONG_LENGTH, 0);
-    WRITES(ply_stream_end(state, answer, 10, &written), PLY_WRONG_LENGTH, 0);
-    IS(state[16], 17);
-    IS(answer[0], 0xD0);
-}
-
 int main(void)
 {
     roots_and_logs();
@@ -252,9 +159,7 @@ int main(void)
     signed_forms();
     batches();
     cards();
-    journals();
     records();
-    streams();
     printf("C: %u numbers compared, %u wrong\n", compared, wrong);
     return wrong != 0;
 }

@@ -1,12 +1,12 @@
 -- The answers leave no choice: two answers with one meaning are the same, for each answer enum.
 use mathlib.Core.Path.{◌≡◌, refl, sym, ap, ◌∙◌}
-use mathlib.Core.List.{List, [], ◌∷◌}
-use Prim.Native.Nat.{ℕ, zero, suc, ◌<◌}
-use native.Mathlib.Omega.{arith}
+use mathlib.Core.List.{[], ◌∷◌}
+use Prim.Native.Nat.{ℕ, ◌-◌, ◌<◌}
 use lib.Dec.{lit<}
 use lib.IntN.{ℤ}
-use Rattle.answers.specs.Reply.{Reply, gives, refusing, refusal_of, natural, carried_of, carried_at}
-use Rattle.answers.specs.Answers.{number_of, carried_by, named, means_done, means_u32, means_u64, means_i8, means_i16, means_i32, means_i64, told_done, told_u64}
+use lib.ListN.{get_or}
+use Rattle.answers.specs.Reply.{Reply, gives, refused}
+use Rattle.answers.specs.Answers.{number_of, means_done, means_u32, means_u64, means_i8, means_i16, means_i32, means_i64}
 use Rattle.answers.specs.declared.Refusal.{Refusal}
 use Rattle.answers.specs.declared.Refusal.TheVariants as why
 use Rattle.answers.specs.declared.Done.{Done}
@@ -21,34 +21,40 @@ use Rattle.answers.specs.declared.I64.{I64}
 pub once : {A B : Type 0} (means : A → B) (back : B → A) → ((r : A) → back (means r) ≡ r) → {x : B} {r s : A} → means r ≡ x → means s ≡ x → r ≡ s
 once means back h {x} {r} {s} p q = sym (h r) ∙ ap back (p ∙ sym q) ∙ h s
 
--- a refusal is named by its number, which is not 0, and by what it carries; all but 9 carry nothing
+-- the refusal of a number
+abbrev named : ℕ → Refusal
+named n = get_or (why.NegativeRoot ∷ why.NoLog ∷ why.DivisorZero ∷ why.NoFit ∷ why.TableTooLong ∷ why.NoSuchCard ∷ why.EmptyMask ∷ why.TooWide ∷ why.Differs ∷ why.NoRoom ∷ why.NoOperation ∷ why.BadOperand ∷ why.WrongLength ∷ []) (n - 1) why.WrongLength
+
+-- a refusal's number names it, is not 0, and fits in four bits
 pub record Numbered (k : Refusal) : Type 0 where
-  pub back : named (number_of k) (carried_by k) ≡ k
+  pub back : named (number_of k) ≡ k
   pub positive : 0 < number_of k
-  pub silent : (number_of k ≡ 9 → ⊥) → carried_by k ≡ []
+  pub small : number_of k < 16
 
 pub numbered : (k : Refusal) → Numbered k
-numbered why.NegativeRoot = record { back = refl; positive = lit< tt; silent = λ _. refl }
-numbered why.NoLog = record { back = refl; positive = lit< tt; silent = λ _. refl }
-numbered why.DivisorZero = record { back = refl; positive = lit< tt; silent = λ _. refl }
-numbered why.NoFit = record { back = refl; positive = lit< tt; silent = λ _. refl }
-numbered why.TableTooLong = record { back = refl; positive = lit< tt; silent = λ _. refl }
-numbered why.NoSuchCard = record { back = refl; positive = lit< tt; silent = λ _. refl }
-numbered why.EmptyMask = record { back = refl; positive = lit< tt; silent = λ _. refl }
-numbered why.TooWide = record { back = refl; positive = lit< tt; silent = λ _. refl }
-numbered (why.Differs n) = record { back = refl; positive = lit< tt; silent = λ d. absurd (d refl) }
-numbered why.NoRoom = record { back = refl; positive = lit< tt; silent = λ _. refl }
-numbered why.NoOperation = record { back = refl; positive = lit< tt; silent = λ _. refl }
-numbered why.BadOperand = record { back = refl; positive = lit< tt; silent = λ _. refl }
-numbered why.WrongLength = record { back = refl; positive = lit< tt; silent = λ _. refl }
-numbered why.JournalFull = record { back = refl; positive = lit< tt; silent = λ _. refl }
+numbered why.NegativeRoot = record { back = refl; positive = lit< tt; small = lit< tt }
+numbered why.NoLog = record { back = refl; positive = lit< tt; small = lit< tt }
+numbered why.DivisorZero = record { back = refl; positive = lit< tt; small = lit< tt }
+numbered why.NoFit = record { back = refl; positive = lit< tt; small = lit< tt }
+numbered why.TableTooLong = record { back = refl; positive = lit< tt; small = lit< tt }
+numbered why.NoSuchCard = record { back = refl; positive = lit< tt; small = lit< tt }
+numbered why.EmptyMask = record { back = refl; positive = lit< tt; small = lit< tt }
+numbered why.TooWide = record { back = refl; positive = lit< tt; small = lit< tt }
+numbered why.Differs = record { back = refl; positive = lit< tt; small = lit< tt }
+numbered why.NoRoom = record { back = refl; positive = lit< tt; small = lit< tt }
+numbered why.NoOperation = record { back = refl; positive = lit< tt; small = lit< tt }
+numbered why.BadOperand = record { back = refl; positive = lit< tt; small = lit< tt }
+numbered why.WrongLength = record { back = refl; positive = lit< tt; small = lit< tt }
 
-named_number : (k : Refusal) → named (number_of k) (carried_by k) ≡ k
+named_number : (k : Refusal) → named (number_of k) ≡ k
 named_number k = (numbered k).back
+
+pub one_refusal : {n : ℕ} {k l : Refusal} → number_of k ≡ n → number_of l ≡ n → k ≡ l
+one_refusal = once number_of named named_number
 
 abbrev back {ℓ} : {A : Type 0} {E : Type ℓ} → (A → E) → (Refusal → E) → Reply A → E
 back number refused' (gives a) = number a
-back number refused' (refusing k carried) = refused' (named k carried)
+back number refused' (refused k) = refused' (named k)
 
 back_done : (r : Done) → back (λ _. Done.Accepted) Done.Refused (means_done r) ≡ r
 back_done Done.Accepted = refl
@@ -98,21 +104,3 @@ back_i64 (I64.Refused k) = ap I64.Refused (named_number k)
 
 pub one_i64 : {x : Reply ℤ} {r s : I64} → means_i64 r ≡ x → means_i64 s ≡ x → r ≡ s
 one_i64 = once means_i64 (back I64.Number I64.Refused) back_i64
-
--- ---- nothing is lost in C: the numbers of an answer are that answer again, and of a number's answer where its refusal carries nothing
-
-refused_done : (n : ℕ) (carried : List ℕ) → 0 < n → told_done n carried ≡ Done.Refused (named n carried)
-refused_done zero carried h = absurd (omega arith)
-refused_done (suc k) carried h = refl
-
-refused_number : (n : ℕ) → 0 < n → told_u64 n 0 ≡ U64.Refused (named n [])
-refused_number zero h = absurd (omega arith)
-refused_number (suc k) h = refl
-
-pub told_done_is : (a : Done) → told_done (refusal_of (means_done a)) (carried_at 0 (means_done a) ∷ []) ≡ a
-told_done_is Done.Accepted = refl
-told_done_is (Done.Refused k) = refused_done (number_of k) (carried_at 0 (means_done (Done.Refused k)) ∷ []) (numbered k).positive ∙ ap Done.Refused (named_number k)
-
-pub told_number : (a : U64) → carried_of (means_u64 a) ≡ [] → told_u64 (refusal_of (means_u64 a)) (natural (means_u64 a)) ≡ a
-told_number (U64.Number n) e = refl
-told_number (U64.Refused k) e = refused_number (number_of k) (numbered k).positive ∙ ap U64.Refused (ap (named (number_of k)) (sym e) ∙ named_number k)

@@ -1,9 +1,9 @@
 // What calls answer: one list of refusals for every crate, and an enum for each kind of value, with the two numbers that a caller in C sees.
-ghost use Rattle.std.specs.Prelude.{◌≡◌, get_or};
-ghost use Rattle.answers.specs.Answers.{number_of, carried_by, means_done, means_u32, means_u64, means_i8, means_i16, means_i32, means_i64};
-ghost use Rattle.answers.specs.Reply.{refusal_of, carried_at, natural, whole};
+ghost use Rattle.std.specs.Prelude.{◌≡◌};
+ghost use Rattle.answers.specs.Answers.{number_of, means_done, means_u32, means_u64, means_i8, means_i16, means_i32, means_i64};
+ghost use Rattle.answers.specs.Reply.{refusal_of, natural, whole};
 
-// Why a call is refused, in the order of their numbers. `Differs` carries what is in the field; the others carry nothing.
+// Why a call is refused, in the order of the numbers 1 to 13.
 #[derive(Drop)]
 pub enum Refusal {
     NegativeRoot,
@@ -14,12 +14,11 @@ pub enum Refusal {
     NoSuchCard,
     EmptyMask,
     TooWide,
-    Differs(u64),
+    Differs,
     NoRoom,
     NoOperation,
     BadOperand,
     WrongLength,
-    JournalFull,
 }
 
 impl Refusal {
@@ -36,34 +35,11 @@ impl Refusal {
             Refusal::NoSuchCard => 6,
             Refusal::EmptyMask => 7,
             Refusal::TooWide => 8,
-            Refusal::Differs(_) => 9,
+            Refusal::Differs => 9,
             Refusal::NoRoom => 10,
             Refusal::NoOperation => 11,
             Refusal::BadOperand => 12,
             Refusal::WrongLength => 13,
-            Refusal::JournalFull => 17,
-        }
-    }
-
-    // The number that it carries, or 0.
-    pub fn carried(self) -> u64
-        ensures { result ≡ get_or (carried_by self) 0 0 }
-    {
-        match self {
-            Refusal::NegativeRoot => 0,
-            Refusal::NoLog => 0,
-            Refusal::DivisorZero => 0,
-            Refusal::NoFit => 0,
-            Refusal::TableTooLong => 0,
-            Refusal::NoSuchCard => 0,
-            Refusal::EmptyMask => 0,
-            Refusal::TooWide => 0,
-            Refusal::Differs(there) => there,
-            Refusal::NoRoom => 0,
-            Refusal::NoOperation => 0,
-            Refusal::BadOperand => 0,
-            Refusal::WrongLength => 0,
-            Refusal::JournalFull => 0,
         }
     }
 }
@@ -83,16 +59,6 @@ impl Done {
         match self {
             Done::Accepted => 0,
             Done::Refused(why) => why.number(),
-        }
-    }
-
-    // The number that the refusal carries, or 0.
-    pub fn carried(self) -> u64
-        ensures { result ≡ carried_at 0 (means_done self) }
-    {
-        match self {
-            Done::Accepted => 0,
-            Done::Refused(why) => why.carried(),
         }
     }
 }

@@ -1,6 +1,5 @@
 -- Batches: every word of a source under one function, into a destination from a place on. The function is gather or scatter under a mask.
-use Rattle.std.specs.Prelude.{◌≡◌, List, [], ◌∷◌, map, ℕ, ◌+◌, ◌-◌, ◌≤◌, ◌<◌, ltb, length, get_or}
-use Rattle.laws.specs.Placed.{placed}
+use Rattle.std.specs.Prelude.{◌≡◌, List, [], ◌∷◌, ◌++◌, map, ℕ, ◌+◌, ◌-◌, ◌≤◌, ◌<◌, ltb, length, get_or, take, drop}
 use Rattle.answers.specs.Reply.{Reply, gives, Row, row, unless, leaves}
 use Rattle.answers.specs.Answers.{means_done}
 use Rattle.answers.specs.declared.Done.{Done}
@@ -19,7 +18,11 @@ room_rows count size place = row 10 (ltb size place) ∷ row 10 (ltb (size - pla
 unfoldable pub room_reply : ℕ → ℕ → ℕ → Reply Unit
 room_reply count size place = unless (room_rows count size place) (gives tt)
 
--- the destination after a batch over f: with the results from the place on, where it is accepted
+-- the destination with results from the place on
+abbrev pub placed : List ℕ → List ℕ → ℕ → List ℕ
+placed results destination place = take place destination ++ (results ++ drop (place + length results) destination)
+
+-- the destination after a batch over f
 abbrev pub batched : (ℕ → ℕ) → List ℕ → List ℕ → ℕ → List ℕ
 batched f source destination place = leaves (room_reply (length source) (length destination) place) (placed (map f source) destination place) destination
 

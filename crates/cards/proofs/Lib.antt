@@ -1,5 +1,3 @@
 pub mod Accepts
-pub mod Carries
 pub mod Changes
 pub mod Once
-pub mod Told

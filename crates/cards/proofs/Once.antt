@@ -4,11 +4,7 @@ use Prim.Native.Nat.{ℕ}
 use Rattle.answers.specs.declared.Done.{Done}
 use Rattle.answers.specs.declared.U64.{U64}
 use Rattle.answers.proofs.Once.{one_done, one_u64}
-use Rattle.cards.specs.Table.{Table, Seen, ChecksCard, ChecksChange, Reads, Changes}
-use Rattle.cards.specs.declared.Change.{Change}
-
-pub one_change_check : {mask : ℕ} {there : Seen} {what : Change} {r s : Done} → ChecksChange there mask what r → ChecksChange there mask what s → r ≡ s
-one_change_check p q = one_done p.replies q.replies
+use Rattle.cards.specs.Table.{Table, Seen, ChecksCard, ChecksWrite, Reads, Writes}
 
 module _ {t : Table} {card mask : ℕ} where
   pub one_card_check : {r s : Done} → ChecksCard t card mask r → ChecksCard t card mask s → r ≡ s
@@ -17,5 +13,9 @@ module _ {t : Table} {card mask : ℕ} where
   pub one_read : {r s : U64} → Reads t card mask r → Reads t card mask s → r ≡ s
   one_read p q = one_u64 p.replies q.replies
 
-  pub one_change : {what : Change} {r s : Done} {t₁ t₂ : Table} → Changes t card mask what r t₁ → Changes t card mask what s t₂ → (r ≡ s) × (t₁ ≡ t₂)
-  one_change p q = (one_done p.replies q.replies, p.leaves_table ∙ sym q.leaves_table)
+  module _ {expected : Seen} {new : ℕ} {r s : Done} where
+    pub one_write_check : ChecksWrite t card mask expected new r → ChecksWrite t card mask expected new s → r ≡ s
+    one_write_check p q = one_done p.replies q.replies
+
+    pub one_write : {t₁ t₂ : Table} → Writes t card mask expected new r t₁ → Writes t card mask expected new s t₂ → (r ≡ s) × (t₁ ≡ t₂)
+    one_write p q = (one_done p.replies q.replies, p.leaves_table ∙ sym q.leaves_table)

@@ -9,7 +9,7 @@ fn bits(answer: I64) -> U64 {
 }
 
 // The forms are numbered in the order of their kinds.
-pub(super) fn call(form: u8, a: u64, b: u64) -> U64 {
+pub fn call(form: u8, a: u64, b: u64) -> U64 {
     let x = int_macros::i64::cast_signed(a);
     let y = int_macros::i64::cast_signed(b);
     match form {

@@ -33,7 +33,7 @@ fn given(kind: u8, words: &[u8], source: &mut [u64], room: &mut [u64]) -> u8 {
 
 // Whether the call gives the refusal and leaves the words. The words: how many words the source has, mask, how many the destination has, place, a
 // seed for each of the two, and the 16 words of the destination's room afterwards.
-pub(super) fn is_right(kind: u8, refusal: u8, words: &[u8]) -> bool {
+pub fn is_right(kind: u8, refusal: u8, words: &[u8]) -> bool {
     if words.len() < 48 {
         return false;
     }

@@ -3,17 +3,17 @@ ghost use Rattle.std.specs.Prelude.{◌≡◌};
 ghost use Rattle.edges.specs.Words.{word_at};
 
 // The number of bytes of the entries of a kind.
-pub(super) fn size(kind: u8) -> usize {
+pub fn size(kind: u8) -> usize {
     match kind {
         0..=32 => 26,
         33 | 34 => 178,
         35 => 42,
-        _ => 66,
+        _ => 58,
     }
 }
 
 // An entry's word at an index, of which there may be none.
-pub(super) fn word(words: &[u8], index: usize) -> u64
+pub fn word(words: &[u8], index: usize) -> u64
     ensures { result ≡ word_at words.now index }
 {
     if index >= words.len() / 8 {

@@ -24,7 +24,7 @@ fn write_type(width: u8) {
 }
 
 // Each signed form has a kind for each width; the others come after them.
-pub(super) fn write(kind: u8) {
+pub fn write(kind: u8) {
     match kind {
         32 => io::write_all(STDOUT_FILENO, b"digit_count"),
         33 => io::write_all(STDOUT_FILENO, b"gather_batch"),

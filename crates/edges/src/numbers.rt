@@ -1,12 +1,19 @@
 // Forms of numbers: the signed ones, and the digit count.
 use crate::entry::word;
 use crate::{at_i8, at_i16, at_i32, at_i64};
-use answers::U64;
+use answers::{U32, U64};
+
+fn digit_count(v: u64) -> U64 {
+    match int_log10::digit_count(v) {
+        U32::Number(count) => U64::Number(count as u64),
+        U32::Refused(why) => U64::Refused(why),
+    }
+}
 
 // Each signed form has a kind for each width, and takes the low bits of the words; the digit count comes after them.
 fn call(kind: u8, a: u64, b: u64) -> U64 {
     if kind == 32 {
-        return U64::Number(int_log10::digit_count(a) as u64);
+        return digit_count(a);
     }
     let form = kind / 4;
     match kind % 4 {
@@ -18,7 +25,7 @@ fn call(kind: u8, a: u64, b: u64) -> U64 {
 }
 
 // Whether the call gives the refusal and the value. The words: value, a, b.
-pub(super) fn is_right(kind: u8, refusal: u8, words: &[u8]) -> bool {
+pub fn is_right(kind: u8, refusal: u8, words: &[u8]) -> bool {
     let given = call(kind, word(words, 1), word(words, 2));
     given.refusal() == refusal && given.value() == word(words, 0)
 }

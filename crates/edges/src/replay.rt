@@ -66,7 +66,7 @@ fn all_kinds(list: &[u8]) -> usize
 }
 
 // Replays the list, and says how much of it is left over: what is no entry, or stands out of order.
-pub(super) fn write(list: &[u8]) {
+pub fn write(list: &[u8]) {
     let at = all_kinds(list);
     io::write_all(STDOUT_FILENO, b"left over: ");
     io::print_decimal(STDOUT_FILENO, (list.len() - at) as u64);

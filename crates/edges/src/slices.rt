@@ -5,7 +5,7 @@ ghost use Rattle.edges.specs.Words.{word_at, made_at, Each};
 use crate::entry::word;
 
 // Makes the words of a slice from a seed: each is a step above the one before, modulo 2^64.
-pub(super) fn make(words: &mut [u64], seed: u64)
+pub fn make(words: &mut [u64], seed: u64)
     ensures { Each (made_at seed) words.new }
 {
     let mut next = seed;
@@ -18,7 +18,7 @@ pub(super) fn make(words: &mut [u64], seed: u64)
 }
 
 // Copies the words of an entry into a slice.
-pub(super) fn copy(words: &[u8], into: &mut [u64])
+pub fn copy(words: &[u8], into: &mut [u64])
     ensures { Each (word_at words.now) into.new }
 {
     let mut i = 0;
@@ -29,7 +29,7 @@ pub(super) fn copy(words: &[u8], into: &mut [u64])
 }
 
 // Puts a word at an index; past the end there is nothing to put.
-pub(super) fn put(words: &mut [u64], at: usize, word: u64)
+pub fn put(words: &mut [u64], at: usize, word: u64)
     ensures { words.new ≡ slice_set words.old at word }
 {
     if at < words.len() {
@@ -38,7 +38,7 @@ pub(super) fn put(words: &mut [u64], at: usize, word: u64)
 }
 
 // Whether two slices hold the same words.
-pub(super) fn same(a: &[u64], b: &[u64]) -> bool
+pub fn same(a: &[u64], b: &[u64]) -> bool
     ensures { (result ≡ true → a.now ≡ b.now) × (a.now ≡ b.now → result ≡ true) }
 {
     if a.len() != b.len() {

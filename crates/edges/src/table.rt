@@ -14,13 +14,13 @@ fn reads(refusal: u8, words: &[u8], room: &mut [u64]) -> bool {
 }
 
 // The words: value, how many words the table has, its seed, card, mask.
-pub(super) fn is_read_right(refusal: u8, words: &[u8]) -> bool {
+pub fn is_read_right(refusal: u8, words: &[u8]) -> bool {
     let mut room = [0u64; 4097];
     reads(refusal, words, &mut room)
 }
 
-// Whether a guarded write gives the refusal with what it carries, and leaves the word at its card and every other word as it was. There is room
-// for the table, and as much for what it is to hold afterwards.
+// Whether a guarded write gives the refusal, and leaves the word at its card and every other word as it was. There is room for the table, and as
+// much for what it is to hold afterwards.
 fn writes(refusal: u8, words: &[u8], room: &mut [u64], after: &mut [u64]) -> bool {
     let length = word(words, 1) as usize;
     if length > room.len() {
@@ -40,11 +40,11 @@ fn writes(refusal: u8, words: &[u8], room: &mut [u64], after: &mut [u64]) -> boo
         word(words, 5),
         word(words, 6),
     );
-    given.refusal() == refusal && given.carried() == word(words, 7) && slices::same(room, after)
+    given.refusal() == refusal && slices::same(room, after)
 }
 
-// The words: the card's word afterwards, how many words the table has, its seed, card, mask, expected, new, what the refusal carries.
-pub(super) fn is_write_right(refusal: u8, words: &[u8]) -> bool {
+// The words: the card's word afterwards, how many words the table has, its seed, card, mask, expected, new.
+pub fn is_write_right(refusal: u8, words: &[u8]) -> bool {
     let mut room = [0u64; 4097];
     let mut after = [0u64; 4097];
     writes(refusal, words, &mut room, &mut after)

@@ -5,20 +5,20 @@ ghost use Rattle.edges.specs.Tally.{Counted};
 use libc::STDOUT_FILENO;
 
 #[derive(Drop)]
-pub(super) struct Tally {
-    pub(super) right: u64,
-    pub(super) wrong: u64,
+pub struct Tally {
+    pub right: u64,
+    pub wrong: u64,
 }
 
 impl Tally {
-    pub(super) fn new() -> Self
+    pub fn new() -> Self
         ensures { result.right + result.wrong ≡ 0 }
     {
         Tally { right: 0, wrong: 0 }
     }
 
     // One answer more, a right one or a wrong one.
-    pub(super) fn count(self, ok: bool) -> Self
+    pub fn count(self, ok: bool) -> Self
         requires { self.right + self.wrong < 2 ^ 63 }
         ensures { Counted self ok result }
     {
@@ -36,7 +36,7 @@ impl Tally {
     }
 
     // The rest of a line that begins with a name.
-    pub(super) fn write(self) {
+    pub fn write(self) {
         io::write_all(STDOUT_FILENO, b": ");
         io::print_decimal(STDOUT_FILENO, self.right);
         io::write_all(STDOUT_FILENO, b" right, ");

@@ -1,12 +1,10 @@
 -- Exported functions over a form f: the refusal's number and the value of f's answer, over the width. A callee speaks of the numbers that
 -- its locals hold; those are the arguments. Assumes nothing.
-use mathlib.Core.Path.{◌≡◌, sym, ap, ◌∙◌, subst}
-use Prim.Native.Nat.{ℕ, ◌≤◌}
-use native.Mathlib.Nat.{lt_of_lt_of_le}
-use lib.Pow.{pow_mono}
+use mathlib.Core.Path.{◌≡◌, ap, ◌∙◌}
+use Prim.Native.Nat.{ℕ}
 use lib.IntN.{ℤ}
 use mir.Syntax.{Width}
-use mir.Val.{hbits, SFits}
+use mir.Val.{SFits}
 use Rattle.answers.specs.Reply.{Reply, refusal_of, natural, whole}
 use Rattle.laws.proofs.Held.{held, is_held, both_held}
 
@@ -41,14 +39,3 @@ module _ {w : Width} {a : ℤ} (fa : SFits w a) where
 
   pub natural_of_one : (f : ℤ → ℕ) {n : ℕ} → n ≡ f (held w a) → n ≡ f a
   natural_of_one f e = e ∙ ap f (is_held fa)
-
--- the refusal of a form g of one number, by a check f that is refused alike: at the number's width, and at a wider v
-module _ {A B : Type 0} (f : ℤ → Reply A) (g : ℤ → Reply B) (alike : (z : ℤ) → refusal_of (f z) ≡ refusal_of (g z)) {w : Width} {a : ℤ} (fa : SFits w a) where
-  pub refusal_by_check : {m : Reply A} {n : ℕ} → m ≡ f (held w a) → n ≡ refusal_of m → n ≡ refusal_of (g a)
-  refusal_by_check e h = refusal_of_one fa f e h ∙ alike a
-
-  pub refusal_by_wider : (v : Width) → SFits v (held w a) → {m : Reply A} {n : ℕ} → m ≡ f (held v (held w a)) → n ≡ refusal_of m → n ≡ refusal_of (g a)
-  refusal_by_wider v fv e h = refusal_by_check (e ∙ ap f (is_held fv)) h
-
-pub widens : {w : Width} {a : ℤ} (v : Width) → SFits w a → hbits w ≤ hbits v → SFits v (held w a)
-widens v fa wide = subst (SFits v) (sym (is_held fa)) (record { sfits = lt_of_lt_of_le fa.sfits (pow_mono wide) })

@@ -115,10 +115,16 @@ pub extern "C" fn ply_ilog10_i64_value(v: i64) -> u32
     int_log10::i64(v).value()
 }
 
-// Never refused: 0 has one digit.
 #[unsafe(no_mangle)]
-pub extern "C" fn ply_digit_count(v: u64) -> u32
-    ensures { result ≡ digit_count v }
+pub extern "C" fn ply_digit_count_refusal(v: u64) -> u8
+    ensures { result ≡ refusal_of (digit_count v) }
 {
-    int_log10::digit_count(v)
+    int_log10::digit_count(v).refusal()
+}
+
+#[unsafe(no_mangle)]
+pub extern "C" fn ply_digit_count_value(v: u64) -> u32
+    ensures { result ≡ natural (digit_count v) }
+{
+    int_log10::digit_count(v).value()
 }

@@ -7,11 +7,11 @@ use native.Mathlib.Omega.{arith}
 use Rattle.answers.specs.declared.Refusal.{Refusal}
 use Rattle.answers.specs.declared.Done.{Done}
 use Rattle.answers.specs.declared.U64.{U64}
-use Rattle.cards.specs.Table.{Table, Seen, Reads, Changes}
-use Rattle.cards.proofs.Accepts.{read_at_change, refused_stays}
-use Rattle.cards.proofs.Once.{one_read, one_change}
-use Rattle.history.specs.History.{Call, History, none, after, reading, changing}
-use Rattle.history.specs.Redemption.{Redemption, Holding, holds, taken, Interleaved, stop, look, start, finish, retry, Runs, nobody, turned_away, redeems, redemptions, Whole, Serial}
+use Rattle.cards.specs.Table.{Table, Seen, Reads}
+use Rattle.cards.proofs.Once.{one_read}
+use Rattle.history.specs.History.{Call, History, none, after, reading}
+use Rattle.history.specs.Redemption.{Redemption, Holding, holds, taken, Interleaved, stop, look, start, finish, Runs, nobody, turned_away, redeems, redemptions, Whole, Serial}
+use Rattle.history.proofs.Steps.{Does, does, reads_again, refused_stays, one_does}
 
 -- calls that start on an equal table
 from : {calls : List Call} {t t₁ t' : Table} → t₁ ≡ t → History t₁ calls t' → History t calls t'
@@ -22,11 +22,10 @@ again : {waiting done : List Holding} {calls : List Call} {t t' : Table} → Int
 again stop none = record { calls = []; runs = nobody; leads = none }
 again (look i) (after (reading r) h) = again i h
 again (start i) (after (reading r) h) = again i h
-again (finish before past r v Done.Accepted i) (after (changing p) h) =
+again (finish before past r v Done.Accepted own i) (after s h) =
     let more = again i h in
-    record { calls = _; runs = redeems Done.Accepted more.runs; leads = after (reading (read_at_change (r.expects v) p)) (after (changing p) more.leads) }
-again (finish before past r v (Done.Refused why) i) (after (changing p) h) = again i (from (refused_stays (r.what v) p) h)
-again (retry before past r v q u card mask i) (after (changing p) h) = again i (from (refused_stays (r.what v) p) h)
+    record { calls = _; runs = redeems Done.Accepted own more.runs; leads = after (reading (reads_again r (does own s))) (after s more.leads) }
+again (finish before past r v (Done.Refused why) own i) (after s h) = again i (from (refused_stays r (does own s)) h)
 
 -- what a read gives leaves no choice
 one_number : {t : Table} {card mask : ℕ} {u v : Seen} → Reads t card mask (U64.Number u) → Reads t card mask (U64.Number v) → v ≡ u
@@ -36,8 +35,8 @@ not_both : {t : Table} {card mask : ℕ} {v : Seen} {why : Refusal} → Reads t 
 not_both p q = let e = one_read p q in let z : ◌≡◌ {A = ℕ} 0 1 = cc in omega arith
 
 -- after equal reads, the writes are answered alike and leave the same table
-one_write : (r : Redemption) {u v : Seen} {a b : Done} {t t₁ t₂ : Table} → v ≡ u → Changes t r.card r.mask (r.what u) a t₁ → Changes t r.card r.mask (r.what v) b t₂ → (b ≡ a) × (t₂ ≡ t₁)
-one_write r e p q = one_change (rw e at q) p
+one_redeems : (r : Redemption) {u v : Seen} {a b : Done} {t t₁ t₂ : Table} → v ≡ u → Does r u a t t₁ → Does r v b t t₂ → (b ≡ a) × (t₂ ≡ t₁)
+one_redeems r e d d₂ = one_does r d (rw e at d₂)
 
 joined : (r : Redemption) {u v : Seen} {a b : Done} {done done₂ : List Holding} {t t₂ : Table} → v ≡ u → b ≡ a → (done₂ ≡ done) × (t₂ ≡ t) →
     (taken b (holds r v) done₂ ≡ taken a (holds r u) done) × (t₂ ≡ t)
@@ -48,27 +47,22 @@ one_run : {rs : List Redemption} {calls others : List Call} {done done₂ : List
     Runs rs calls done → History t calls t' → Runs rs others done₂ → History t others t'' → (done₂ ≡ done) × (t'' ≡ t')
 one_run nobody none nobody none = (refl, refl)
 one_run (turned_away x) (after (reading p) h) (turned_away y) (after (reading q) g) = one_run x h y g
-one_run (turned_away x) (after (reading p) h) (redeems b y) (after (reading q) g) = absurd (not_both q p)
-one_run (redeems a x) (after (reading p) h) (turned_away y) (after (reading q) g) = absurd (not_both p q)
-one_run (redeems {r} a x) (after (reading p) (after (changing d) h)) (redeems b y) (after (reading q) (after (changing d₂) g)) =
+one_run (turned_away x) (after (reading p) h) (redeems b own₂ y) (after (reading q) g) = absurd (not_both q p)
+one_run (redeems a own x) (after (reading p) h) (turned_away y) (after (reading q) g) = absurd (not_both p q)
+one_run (redeems {r} a own x) (after (reading p) (after s h)) (redeems b own₂ y) (after (reading q) (after s₂ g)) =
     let e = one_number p q in
-    let (same, left) = one_write r e d d₂ in
+    let (same, left) = one_redeems r e (does own s) (does own₂ s₂) in
     joined r e same (one_run x h y (from left g))
 
 pub one_outcome : {t : Table} {rs : List Redemption} {done done₂ : List Holding} {t' t'' : Table} → Whole t rs done t' → Whole t rs done₂ t'' → (done₂ ≡ done) × (t'' ≡ t')
 one_outcome w x = one_run w.runs w.leads x.runs x.leads
 
--- with any redemptions under way at the start, which have read before and not yet written
-pub demand_3_under_way : (waiting : List Holding) (t : Table) (calls : List Call) (t' : Table) (done : List Holding) →
-    History t calls t' → Interleaved waiting calls done → Serial t done t'
-demand_3_under_way waiting t calls t' done h i = let w = again i h in record { again = w; only = λ done'' t'' x. one_outcome w x }
-
--- with none
+-- with no redemption under way at the start
 pub demand_3 : (t : Table) (calls : List Call) (t' : Table) (done : List Holding) → History t calls t' → Interleaved [] calls done → Serial t done t'
-demand_3 = demand_3_under_way []
+demand_3 t calls t' done h i = let w = again i h in record { again = w; only = λ done'' t'' x. one_outcome w x }
 
 -- a whole run is one of the interleavings
 pub whole_interleaves : {rs : List Redemption} {calls : List Call} {done : List Holding} → Runs rs calls done → Interleaved [] calls done
 whole_interleaves nobody = stop
 whole_interleaves (turned_away x) = look (whole_interleaves x)
-whole_interleaves (redeems {r} {v = v} a x) = start (finish [] [] r v a (whole_interleaves x))
+whole_interleaves (redeems {r} {v = v} a own x) = start (finish [] [] r v a own (whole_interleaves x))

@@ -1,4 +1,3 @@
+pub mod Steps
 pub mod Interleaving
-pub mod Retry
 pub mod Examples
-pub mod Told

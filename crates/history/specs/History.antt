@@ -2,19 +2,18 @@
 use Rattle.std.specs.Prelude.{List, [], ◌∷◌, ℕ}
 use Rattle.answers.specs.declared.Done.{Done}
 use Rattle.answers.specs.declared.U64.{U64}
-use Rattle.cards.specs.Table.{Table, Reads, Changes}
-use Rattle.cards.specs.declared.Change.{Change}
+use Rattle.cards.specs.Table.{Table, Seen, Reads, Writes}
 
 -- a call that was made: its arguments and its answer
 pub data Call : Type 0 where
   reads : (card mask : ℕ) → U64 → Call
-  changes : (card mask : ℕ) → Change → Done → Call
+  writes : (card mask : ℕ) (expected : Seen) (new : ℕ) → Done → Call
 
--- `Step t call t'`: made on the table t, the call keeps its function's promise and leaves t'; a read is lent the table as `&`, so it stays.
--- Of `journal::write` this is the table's half of the promise.
+-- `Step t call t'`: made on the table t, the call keeps its function's promise and leaves t'; a read is lent the table as `&`, so it stays
 pub data Step : Table → Call → Table → Type 0 where
   reading : {t : Table} {card mask : ℕ} {a : U64} → Reads t card mask a → Step t (reads card mask a) t
-  changing : {t t' : Table} {card mask : ℕ} {what : Change} {a : Done} → Changes t card mask what a t' → Step t (changes card mask what a) t'
+  writing : {t t' : Table} {card mask : ℕ} {expected : Seen} {new : ℕ} {a : Done} →
+      Writes t card mask expected new a t' → Step t (writes card mask expected new a) t'
 
 -- `History t calls t'`: the calls lead from t to t', and nothing else writes the table
 pub data History : Table → List Call → Table → Type 0 where

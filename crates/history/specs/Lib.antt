@@ -1,4 +1,2 @@
 pub mod History
 pub mod Redemption
-pub mod Retry
-pub mod Told

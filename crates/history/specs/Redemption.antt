@@ -4,25 +4,21 @@ use Rattle.answers.specs.declared.Refusal.{Refusal}
 use Rattle.answers.specs.declared.Done.{Done}
 use Rattle.answers.specs.declared.U64.{U64}
 use Rattle.cards.specs.Table.{Table, Seen}
-use Rattle.cards.specs.Accepts.{Expects}
-use Rattle.cards.specs.declared.Change.{Change}
-use Rattle.history.specs.History.{Call, reads, changes, History}
+use Rattle.history.specs.History.{Call, reads, writes, History}
 
--- one card, one mask, and a write that is a fixed function of what was read, and expects it; the redemption's own arguments, and the length
--- and place of a journal that it is lent, are within that function
+-- one card, one mask, and the new number as a fixed function of what was read; the redemption's own arguments are within that function
 pub record Redemption : Type 0 where
   pub card : ℕ
   pub mask : ℕ
-  pub what : Seen → Change
-  pub expects : (v : Seen) → Expects v (what v)
+  pub next : Seen → ℕ
 
 -- a redemption, and what it read
 pub data Holding : Type 0 where
   holds : Redemption → Seen → Holding
 
--- the write of r, which read v, answered a
-abbrev pub write_of : Redemption → Seen → Done → Call
-write_of r v a = changes r.card r.mask (r.what v) a
+-- `Own r v a call`: the call is the write of r, which read v; it expects v, and is answered a
+pub data Own (r : Redemption) (v : Seen) (a : Done) : Call → Type 0 where
+  plainly : Own r v a (writes r.card r.mask v (r.next v) a)
 
 -- with the redemption in front whose write was answered so, if it was accepted
 abbrev pub taken : Done → Holding → List Holding → List Holding
@@ -41,12 +37,9 @@ pub data Interleaved : List Holding → List Call → List Holding → Type 0 wh
   start : {waiting done : List Holding} {calls : List Call} {r : Redemption} {v : Seen} →
       Interleaved (holds r v ∷ waiting) calls done → Interleaved waiting (reads r.card r.mask (U64.Number v) ∷ calls) done
   -- the one write of a redemption that waits; however it is answered, the redemption waits no more
-  finish : (before after : List Holding) {done : List Holding} {calls : List Call} (r : Redemption) (v : Seen) (a : Done) →
-      Interleaved (before ++ after) calls done → Interleaved (before ++ holds r v ∷ after) (write_of r v a ∷ calls) (taken a (holds r v) done)
-  -- one that is refused with 9, which carries u, where that counts as the read of one new redemption q of that card under that mask
-  retry : (before after : List Holding) {done : List Holding} {calls : List Call} (r : Redemption) (v : Seen) (q : Redemption) (u : Seen) →
-      q.card ≡ r.card → q.mask ≡ r.mask →
-      Interleaved (holds q u ∷ (before ++ after)) calls done → Interleaved (before ++ holds r v ∷ after) (write_of r v (Done.Refused (Refusal.Differs u)) ∷ calls) done
+  finish : (before after : List Holding) {done : List Holding} {call : Call} {calls : List Call} (r : Redemption) (v : Seen) (a : Done) →
+      Own r v a call → Interleaved (before ++ after) calls done →
+      Interleaved (before ++ holds r v ∷ after) (call ∷ calls) (taken a (holds r v) done)
 
 -- `Runs redemptions calls done`: the redemptions run whole, one after the other, by these calls: each reads, and writes at once if it is
 -- given a number. `done` are those whose writes are accepted, each with what it read.
@@ -54,8 +47,9 @@ pub data Runs : List Redemption → List Call → List Holding → Type 0 where
   nobody : Runs [] [] []
   turned_away : {r : Redemption} {rest : List Redemption} {calls : List Call} {done : List Holding} {why : Refusal} →
       Runs rest calls done → Runs (r ∷ rest) (reads r.card r.mask (U64.Refused why) ∷ calls) done
-  redeems : {r : Redemption} {rest : List Redemption} {calls : List Call} {done : List Holding} {v : Seen} (a : Done) →
-      Runs rest calls done → Runs (r ∷ rest) (reads r.card r.mask (U64.Number v) ∷ write_of r v a ∷ calls) (taken a (holds r v) done)
+  redeems : {r : Redemption} {rest : List Redemption} {call : Call} {calls : List Call} {done : List Holding} {v : Seen} (a : Done) →
+      Own r v a call → Runs rest calls done →
+      Runs (r ∷ rest) (reads r.card r.mask (U64.Number v) ∷ call ∷ calls) (taken a (holds r v) done)
 
 abbrev pub redemptions : List Holding → List Redemption
 redemptions [] = []

@@ -1,5 +1,10 @@
 -- The stages of deposit, over the width, read off at the places where the ones of the mask stand. Assumes nothing.
-use Rattle.std.proofs.Common.{◌≡◌, ℕ, zero, suc, ◌+◌, ◌-◌, ◌*◌, ◌%◌, ◌^◌, ◌<◌, ◌≤◌, min, List, get_or, sym, refl, ap, ◌∙◌, le_of_eq, lt_of_le_of_lt, arith}
+use mathlib.Core.Path.{◌≡◌, refl, sym, ap, ◌∙◌}
+use mathlib.Core.List.{List}
+use Prim.Native.Nat.{ℕ, zero, suc, ◌+◌, ◌-◌, ◌*◌, ◌%◌, ◌^◌, ◌≤◌, ◌<◌, min}
+use native.Mathlib.Nat.{lt_of_le_of_lt, le_of_eq}
+use native.Mathlib.Omega.{arith}
+use lib.ListN.{get_or}
 use lib.Bits.{bit_and, bit_xor}
 use Rattle.laws.proofs.Order.{by_order}
 use Rattle.int_bits.specs.Gather.{scatter, bit, count}

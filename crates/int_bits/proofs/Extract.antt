@@ -1,7 +1,12 @@
 -- The stages of extract, over the width. A stage is linear over XOR, so it is enough to follow one bit. Assumes nothing.
-use Rattle.std.proofs.Common.{◌≡◌, ℕ, zero, suc, ◌+◌, ◌-◌, ◌*◌, ◌/◌, ◌%◌, ◌^◌, ◌<◌, ◌≤◌, min, List, get_or, sym, refl, ap, ◌∙◌, ap₂, le_of_eq, lt_of_le_of_lt, add-zero, mod-lt, mod-eq_of_lt, one-mul, zero-mul, add-one, arith, pow_pos, pow-add}
-use native.Mathlib.Nat.{mod-one, mod-add-mod, add-mod-mod, zero-div, sub-zero}
-use lib.Pow.{split, shl-shr}
+use mathlib.Core.Path.{◌≡◌, refl, sym, ap, ap₂, ◌∙◌}
+use mathlib.Core.List.{List}
+use Prim.Native.Nat.{ℕ, zero, suc, ◌+◌, ◌-◌, ◌*◌, ◌/◌, ◌%◌, ◌^◌, ◌≤◌, ◌<◌, min}
+use native.Mathlib.Nat.{mod-one, mod-lt, mod-eq_of_lt, mod-add-mod, add-mod-mod, add-zero, one-mul, zero-mul, zero-div, sub-zero, lt_of_le_of_lt, le_of_eq}
+use native.Mathlib.Numerals.{add-one}
+use native.Mathlib.Omega.{arith}
+use lib.ListN.{get_or}
+use lib.Pow.{pow_pos, pow-add, split, shl-shr}
 use lib.Bits.{bit_and, bit_xor, xor_zero_r, xor_self, xor_shifted, and_block, and_step, and_le_l}
 use Rattle.int_bits.specs.Gather.{gather, bit, count}
 use Rattle.int_bits.specs.Stages.{flip, stage_mask, stage_masks, moved_down, extract_stages}

@@ -1,5 +1,8 @@
 -- Gather and scatter, one bit more at the bottom and at the top, and how wide they are. Each by induction on the width. Assumes nothing.
-use Rattle.std.proofs.Common.{◌≡◌, ℕ, zero, suc, ◌+◌, ◌*◌, ◌/◌, ◌%◌, ◌^◌, ◌<◌, min, refl, ap, ◌∙◌, pow-suc, arith}
+use mathlib.Core.Path.{◌≡◌, refl, ap, ◌∙◌}
+use Prim.Native.Nat.{ℕ, zero, suc, ◌+◌, ◌*◌, ◌/◌, ◌%◌, ◌^◌, ◌<◌, min}
+use native.Mathlib.Nat.{pow-suc}
+use native.Mathlib.Omega.{arith}
 use Rattle.laws.proofs.Order.{by_order}
 use Rattle.int_bits.specs.Gather.{gather, scatter, bit, count}
 use Rattle.int_bits.specs.Stages.{from_bits}

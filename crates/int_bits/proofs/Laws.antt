@@ -1,8 +1,11 @@
 -- One undoes the other, and how wide a gathered number is. Each from what its bits are. Assumes nothing.
-use Rattle.std.proofs.Common.{◌≡◌, ℕ, ◌%◌, ◌^◌, ◌<◌, sym, ◌∙◌, mod-lt, arith, pow_pos}
-use native.Mathlib.Nat.{min-zero}
+use mathlib.Core.Path.{◌≡◌, sym, ◌∙◌}
+use Prim.Native.Nat.{ℕ, ◌%◌, ◌^◌, ◌<◌}
+use native.Mathlib.Nat.{mod-lt, min-zero}
+use native.Mathlib.Omega.{arith}
 use lib.Bits.{bit_and}
 use lib.Count.{ones}
+use lib.Pow.{pow_pos}
 use Rattle.int_bits.specs.Gather.{gather, scatter, bit, count}
 use Rattle.int_bits.specs.Meaning.{Gathered, Scattered}
 use Rattle.int_bits.proofs.Bit.{bit_lt, bit-and, bit_high, bit-mod}
@@ -14,16 +17,6 @@ module _ (w m : ℕ) (hm : m < 2 ^ w) (x : ℕ) where
   -- a gathered number is below 2^(ones of m)
   pub gather_ones : gather w x m < 2 ^ ones m
   gather_ones = rw (count_ones w m hm) at (gather_lt w x m)
-
-  -- the bits of x off m do not matter
-  pub gather_under : gather w (bit_and x m) m ≡ gather w x m
-  gather_under = gather_only w m hm is
-    where
-      is : Gathered (bit_and x m) m (gather w x m)
-      is = record {
-        at = λ j p o. (gather_is w m hm x).at j p o ∙ sym (bit-and x m p ∙ rw o.one (omega (arith, bit_lt x p)));
-        rest = (gather_is w m hm x).rest;
-      }
 
   -- scatter after gather is x AND m
   pub scatter-gather : scatter w (gather w x m) m ≡ bit_and x m

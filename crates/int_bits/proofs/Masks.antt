@@ -1,6 +1,10 @@
 -- The masks of the stages, bit by bit, and each of the list. Assumes nothing.
-use Rattle.std.proofs.Common.{◌≡◌, ℕ, zero, suc, ◌+◌, ◌^◌, ◌<◌, [], length, get_or, refl, ap, ◌∙◌, add-one, arith, length-append}
-use lib.ListN.{get_or-append}
+use mathlib.Core.Path.{◌≡◌, refl, ap, ◌∙◌}
+use mathlib.Core.List.{[]}
+use Prim.Native.Nat.{ℕ, zero, suc, ◌+◌, ◌^◌, ◌<◌}
+use native.Mathlib.Numerals.{add-one}
+use native.Mathlib.Omega.{arith}
+use lib.ListN.{get_or, length, length-append, get_or-append}
 use lib.Seq.{get_or_at}
 use Rattle.laws.proofs.Order.{by_order}
 use Rattle.int_bits.specs.Gather.{bit, count}

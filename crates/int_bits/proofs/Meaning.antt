@@ -1,5 +1,7 @@
--- Gather and scatter are what the rules say bit by bit, and nothing else is. Assumes nothing.
-use Rattle.std.proofs.Common.{◌≡◌, ℕ, ◌^◌, ◌<◌, ◌≤◌, sym, refl, ◌∙◌, arith}
+-- Gather and scatter are what document 01 says bit by bit, and nothing else is. Assumes nothing.
+use mathlib.Core.Path.{◌≡◌, refl, sym, ◌∙◌}
+use Prim.Native.Nat.{ℕ, ◌^◌, ◌≤◌, ◌<◌}
+use native.Mathlib.Omega.{arith}
 use Rattle.laws.proofs.Order.{by_order}
 use Rattle.int_bits.specs.Gather.{gather, scatter, bit, count}
 use Rattle.int_bits.specs.Meaning.{One, Gathered, Scattered}

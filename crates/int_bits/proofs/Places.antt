@@ -1,6 +1,9 @@
 -- Where each one of the mask stands after k stages, and what the masks say there, over the width. Assumes nothing.
-use Rattle.std.proofs.Common.{◌≡◌, ℕ, suc, ◌+◌, ◌-◌, ◌*◌, ◌/◌, ◌%◌, ◌^◌, ◌<◌, ◌≤◌, ap, ◌∙◌, lt_of_lt_of_le, lt_of_le_of_lt, mod-lt, mod-eq_of_lt, div-add-mod', arith, pow_pos}
-use native.Mathlib.Nat.{mod-one, mod-le, div-eq_of_lt-le}
+use mathlib.Core.Path.{◌≡◌, ap, ◌∙◌}
+use Prim.Native.Nat.{ℕ, suc, ◌+◌, ◌-◌, ◌*◌, ◌/◌, ◌%◌, ◌^◌, ◌≤◌, ◌<◌}
+use native.Mathlib.Nat.{mod-one, mod-lt, mod-le, mod-eq_of_lt, div-eq_of_lt-le, div-add-mod', lt_of_le_of_lt, lt_of_lt_of_le}
+use native.Mathlib.Omega.{arith}
+use lib.Pow.{pow_pos}
 use Rattle.int_bits.specs.Gather.{bit, count}
 use Rattle.int_bits.specs.Stages.{flip, stage_mask}
 use Rattle.int_bits.proofs.Bit.{bit_not, low-suc}

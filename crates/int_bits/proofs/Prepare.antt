@@ -1,9 +1,15 @@
 -- What the loops of `prepare` keep true, over the width. Assumes nothing.
 -- z is the flipped mask, so `count z` counts the mask's zeros. At stage k bit j of `zeros` says whether the count of whole groups of 2^k
 -- zeros changes from position j to position j + 2^k, modulo 2; bit j of `parity` becomes that count at j + 2^k, modulo 2.
-use Rattle.std.proofs.Common.{◌≡◌, ℕ, suc, ◌+◌, ◌-◌, ◌*◌, ◌/◌, ◌%◌, ◌^◌, ◌<◌, ◌≤◌, min, List, [], ◌∷◌, ◌++◌, length, take, set, sym, refl, ap, ◌∙◌, ap₂, le_trans, le_of_eq, lt_of_le_of_lt, mod-lt, pow-suc, add-one, arith, length-set, take_all, take-suc-set, pow_pos, shr-shr}
-use native.Mathlib.Nat.{div-eq_of_lt, add-div_right}
-use lib.Pow.{shr_mono, shr_le, ones_sub-lt}
+use mathlib.Core.Path.{◌≡◌, refl, sym, ap, ap₂, ◌∙◌}
+use mathlib.Core.List.{List, [], ◌∷◌, ◌++◌}
+use Prim.Native.Nat.{ℕ, suc, ◌+◌, ◌-◌, ◌*◌, ◌/◌, ◌%◌, ◌^◌, ◌≤◌, ◌<◌, min}
+use native.Mathlib.Nat.{pow-suc, div-eq_of_lt, lt_of_le_of_lt, mod-lt, le_trans, le_of_eq, add-div_right}
+use native.Mathlib.Numerals.{add-one}
+use native.Mathlib.Omega.{arith}
+use lib.ListN.{set, length, take, length-set}
+use lib.Seq.{take-suc-set, take_all}
+use lib.Pow.{pow_pos, shr-shr, shr_mono, shr_le, ones_sub-lt}
 use lib.Bits.{bit_and, bit_xor, and_le_l, xor_lt}
 use Rattle.laws.proofs.Order.{by_order}
 use Rattle.int_bits.specs.Gather.{bit, count}

@@ -1,4 +1,4 @@
--- Gather and scatter of the rules over the width w, lowest bit first: the lowest bit of the mask m says whether a bit of x is taken.
+-- Gather and scatter of document 01 over the width w, lowest bit first: the lowest bit of the mask m says whether a bit of x is taken.
 use Rattle.std.specs.Prelude.{ℕ, zero, suc, ◌+◌, ◌*◌, ◌/◌, ◌%◌, ◌^◌}
 
 -- the bits of x at the ones of m, moved together from bit 0 up

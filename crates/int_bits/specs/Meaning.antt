@@ -1,4 +1,4 @@
--- What the rules say of gather and scatter, bit by bit. That each is so, and is the only number that is so, is shown in proofs/Meaning.
+-- What document 01 says of gather and scatter, bit by bit. That each is so, and is the only number that is so, is shown in proofs/Meaning.
 use Rattle.std.specs.Prelude.{◌≡◌, ℕ}
 use Rattle.int_bits.specs.Gather.{bit, count}
 

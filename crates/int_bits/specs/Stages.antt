@@ -1,5 +1,6 @@
 -- The stages of the code, of which stage k moves bits by 2^k: the mask of each, and what the stages do under any masks.
-use Rattle.std.specs.Prelude.{ℕ, zero, suc, ◌+◌, ◌-◌, ◌*◌, ◌/◌, ◌%◌, ◌^◌, List, [], ◌∷◌, ◌++◌, bit_and, bit_xor, slice_index}
+use Rattle.std.specs.Prelude.{List, [], ◌∷◌, ◌++◌, ℕ, zero, suc, ◌+◌, ◌-◌, ◌*◌, ◌/◌, ◌%◌, ◌^◌, get_or}
+use Rattle.std.specs.Int.Bits.{bit_and, bit_xor}
 use Rattle.int_bits.specs.Gather.{bit, count}
 
 -- the number whose bits below w are f 0, f 1, f 2 and so on
@@ -30,8 +31,8 @@ moved_up w n mask x = bit_xor (bit_xor x (bit_and x mask)) ((bit_and x mask * 2 
 -- x after the stages below s: bits go down from the first stage to the last, and up from the last to the first
 unfoldable pub extract_stages : ℕ → List ℕ → ℕ → ℕ
 extract_stages zero masks x = x
-extract_stages (suc s) masks x = moved_down (2 ^ s) (slice_index masks s) (extract_stages s masks x)
+extract_stages (suc s) masks x = moved_down (2 ^ s) (get_or masks s 0) (extract_stages s masks x)
 
 unfoldable pub deposit_stages : ℕ → ℕ → List ℕ → ℕ → ℕ
 deposit_stages w zero masks x = x
-deposit_stages w (suc s) masks x = deposit_stages w s masks (moved_up w (2 ^ s) (slice_index masks s) x)
+deposit_stages w (suc s) masks x = deposit_stages w s masks (moved_up w (2 ^ s) (get_or masks s 0) x)

@@ -1,5 +1,6 @@
--- A word with a number stored in a field of it: the rules' guarded write.
-use Rattle.std.specs.Prelude.{ℕ, ◌+◌, ◌-◌, bit_and}
+-- A word with a number stored in a field of it: document 01's guarded write.
+use Rattle.std.specs.Prelude.{ℕ, ◌+◌, ◌-◌}
+use Rattle.std.specs.Int.Bits.{bit_and}
 use Rattle.int_bits.specs.Gather.{scatter}
 
 -- the word without the mask's bits, plus the new number scattered under the mask

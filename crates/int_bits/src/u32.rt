@@ -1,5 +1,6 @@
 // Gather and scatter at 32 bits.
-ghost use Rattle.std.specs.Prelude.{◌≡◌, bit_and};
+ghost use Rattle.std.specs.Prelude.{◌≡◌};
+ghost use Rattle.std.specs.Int.Bits.{bit_and};
 ghost use Rattle.int_bits.specs.Gather.{gather, scatter};
 ghost use Rattle.int_bits.specs.Stages.{stage_masks, extract_stages, deposit_stages};
 

@@ -1,7 +1,7 @@
 -- The answers: the log of a number above 0, refusal 2 for any other; of a signed number once over the width. Assumes nothing.
 use mathlib.Core.Path.{◌≡◌, refl, sym, ap, subst, ◌∙◌}
 use mathlib.Core.Bool.{true, false}
-use Prim.Native.Nat.{ℕ, zero, suc, ◌≤◌, ◌<◌}
+use Prim.Native.Nat.{ℕ, zero, suc, ◌+◌, ◌≤◌, ◌<◌}
 use native.Mathlib.Omega.{arith}
 use borrow.Author.Tests.{le-ltb, ltb-true, ltb-false}
 use lib.Dec.{T}
@@ -9,9 +9,9 @@ use lib.IntN.{ℤ, pos, negsuc, nat_abs}
 use lib.Signed.{lt_z, non_neg}
 use mir.Syntax.{Width}
 use mir.Val.{Fits, SFits}
-use Rattle.answers.specs.Reply.{gives, refused}
+use Rattle.answers.specs.Reply.{gives, refused, mapped}
 use Rattle.laws.proofs.Held.{held, is_held, casts}
-use Rattle.int_log10.specs.Log.{log, log_of}
+use Rattle.int_log10.specs.Log.{log, log_of, digit_count}
 
 -- ---- unsigned
 
@@ -24,6 +24,16 @@ given {v} {k} = at v
 
 pub refuses : {v : ℕ} → v ≤ 0 → refused 2 ≡ log_of (pos v)
 refuses {v} h = ap (λ n. log_of (pos n)) {x = 0} {y = v} (omega arith)
+
+-- ---- the digit count
+
+pub counted : {v k : ℕ} → 0 < v → k ≡ log v → gives (k + 1) ≡ digit_count v
+unfolding digit_count
+counted p e = ap (mapped (λ k. k + 1)) (given p e)
+
+pub not_counted : {v : ℕ} → v ≤ 0 → refused 2 ≡ digit_count v
+unfolding digit_count
+not_counted h = ap (mapped (λ k. k + 1)) (refuses h)
 
 -- ---- signed: a number above 0 is its absolute value, and any other has no log
 

@@ -2,4 +2,3 @@ pub mod Log
 pub mod Sums
 pub mod Left
 pub mod Answer
-pub mod Digits

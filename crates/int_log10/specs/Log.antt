@@ -1,6 +1,6 @@
 -- The decimal logarithm and the digit count.
 use Rattle.std.specs.Prelude.{Bool, ℕ, zero, suc, ◌+◌, ◌^◌, ◌≤◌, ◌<◌, ltb, ℤ, pos, negsuc}
-use Rattle.answers.specs.Reply.{Reply, gives, refused}
+use Rattle.answers.specs.Reply.{Reply, gives, refused, mapped}
 use Rattle.laws.specs.First.{first_from}
 
 -- k is the log of v
@@ -22,13 +22,6 @@ log_of (pos zero) = refused 2
 log_of (pos (suc n)) = gives (log (suc n))
 log_of (negsuc n) = refused 2
 
--- the digit count: 1 at 0, else the log plus one
-unfoldable pub digit_count : ℕ → ℕ
-digit_count zero = 1
-digit_count (suc n) = log (suc n) + 1
-
--- v has k digits: k is the least number from 1 up with v < 10 ^ k
-pub record Digits (v k : ℕ) : Type 0 where
-  pub some : 1 ≤ k
-  pub enough : v < 10 ^ k
-  pub least : (j : ℕ) → 1 ≤ j → v < 10 ^ j → k ≤ j
+-- the digit count: the log plus one, and refused where the log is
+unfoldable pub digit_count : ℕ → Reply ℕ
+digit_count v = mapped (λ k. k + 1) (log_of (pos v))

@@ -174,9 +174,13 @@ pub fn i64(val: i64) -> U32
     }
 }
 
-// How many decimal digits v is printed with: its log plus one, and 1 for 0.
-pub fn digit_count(v: u64) -> u32
-    ensures { result ≡ digit_count v }
+// How many decimal digits v has: its log plus one.
+pub fn digit_count(v: u64) -> U32
+    ensures { means_u32 result ≡ digit_count v }
 {
-    if v > 0 { u64_impl(v) + 1 } else { 1 }
+    if v > 0 {
+        U32::Number(u64_impl(v) + 1)
+    } else {
+        U32::Refused(Refusal::NoLog)
+    }
 }

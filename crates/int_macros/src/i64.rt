@@ -86,17 +86,7 @@ pub fn overflowing_sub(a: i64, rhs: i64) -> Overflowing
 pub fn overflowing_neg(a: i64) -> Overflowing
     ensures { Overflows w64 (neg_ℤ a) result.value result.overflow }
 {
-    if a == i64::MIN {
-        Overflowing {
-            value: i64::MIN,
-            overflow: true,
-        }
-    } else {
-        Overflowing {
-            value: -a,
-            overflow: false,
-        }
-    }
+    overflowing_sub(0, a)
 }
 
 pub fn strict_add(a: i64, rhs: i64) -> I64

@@ -5,19 +5,12 @@ use mir.Syntax.{Width}
 use mir.Val.{hbits}
 use Rattle.answers.specs.Reply.{Reply, gives, refused}
 use Rattle.laws.proofs.Held.{held, is_held, tested, from_zero, below_zero}
-use Rattle.int_sqrt.specs.Root.{root, root_of, root_check}
+use Rattle.int_sqrt.specs.Root.{root, root_of}
 use Rattle.int_sqrt.proofs.Root.{root_le}
 
 module _ {w : Width} {n : ℤ} (f : SFits w n) where
   pub refuses : lt_z (held w n) (pos 0) ≡ true → ◌≡◌ {A = Reply ℤ} (refused 1) (root_of n)
   refuses e = sym (ap root_of (below_zero n (tested f e)))
-
-  -- the refusal without the root
-  pub check_refuses : lt_z (held w n) (pos 0) ≡ true → ◌≡◌ {A = Reply Unit} (refused 1) (root_check n)
-  check_refuses e = sym (ap root_check (below_zero n (tested f e)))
-
-  pub check_accepts : lt_z (held w n) (pos 0) ≡ false → gives tt ≡ root_check n
-  check_accepts e = sym (ap root_check (from_zero n (tested f e)))
 
   module _ {s : ℕ} (e : lt_z (held w n) (pos 0) ≡ false) (r : s ≡ root (nat_abs (held w n))) where
     same : s ≡ root (nat_abs n)

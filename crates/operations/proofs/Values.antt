@@ -1,6 +1,6 @@
 -- Every reply has room in an answer: its refusal has four bits, whatever numbers other calls may give, and its value has
 -- zeros above its width.
-use mathlib.Core.Path.{◌≡◌, sym, subst}
+use mathlib.Core.Path.{◌≡◌, refl, sym, subst}
 use mathlib.Core.Bool.{Bool, true, false, cond, ◌&&◌}
 use mathlib.Core.List.{List, [], ◌∷◌}
 use Prim.Native.Nat.{ℕ, zero, suc, ◌*◌, ◌^◌, ◌≤◌, ◌<◌}
@@ -17,7 +17,7 @@ use mir.Val.{bits, to_z, of_z}
 use mir.ValLaws.{half_full, to_z-Fits, of_z_fits}
 use Rattle.laws.proofs.Table.{both, both_left, both_right}
 use Rattle.answers.specs.Reply.{Reply, gives, refusal_of, natural, mapped, Row, row, unless}
-use Rattle.answers.proofs.Rows.{Clear, Each, each_unless, each_so, mapped-unless}
+use Rattle.answers.proofs.Rows.{Clear}
 use Rattle.int_sqrt.specs.Root.{root, root_of}
 use Rattle.int_sqrt.proofs.Root.{root_is}
 use Rattle.int_log10.specs.Log.{log, log_of}
@@ -34,9 +34,21 @@ pub record Room (n : ℕ) (r : Reply ℕ) : Type 0 where
 
 -- ---- refusals in rows
 
+-- the numbers of all rows, whether they apply or not
+abbrev small_rows : List Row → Bool
+small_rows [] = true
+small_rows (row k t ∷ rows) = both (ltb k 16) (small_rows rows)
+
 module _ {n : ℕ} (p : 0 < n) {r : Reply ℕ} where
-  pub rows_room : (rows : List Row) → Each (λ k carried. T (ltb k 16)) rows → (Clear rows → Room n r) → Room n (unless rows r)
-  rows_room rows h f = each_unless (Room n) rows r (each_so (λ k carried s. record { refusal = ltb→lt k 16 s; value = p }) rows h) f
+  pub rows_room : (rows : List Row) → T (small_rows rows) → (Clear rows → Room n r) → Room n (unless rows r)
+  rows_room [] h f = f tt
+  rows_room (row k true ∷ rows) h f = record { refusal = ltb→lt k 16 (both_left (ltb k 16) (small_rows rows) h); value = p }
+  rows_room (row k false ∷ rows) h f = rows_room rows (both_right (ltb k 16) (small_rows rows) h) (λ c. f (refl, c))
+
+mapped-unless : {A B : Type 0} (f : A → B) (rows : List Row) (r : Reply A) → mapped f (unless rows r) ≡ unless rows (mapped f r)
+mapped-unless f [] r = refl
+mapped-unless f (row k true ∷ rows) r = refl
+mapped-unless f (row k false ∷ rows) r = mapped-unless f rows r
 
 -- ---- the operations, at a width
 
@@ -54,7 +66,7 @@ module _ (w : Width) where
   rem_room a d h =
       let rows = row 3 (eq_z d (pos 0)) ∷ row 4 (eq_z a (min_z w) && eq_z d (negsuc 0)) ∷ [] in
       subst (Room (2 ^ bits w)) (sym (mapped-unless (of_z w) rows (gives (pos (mod_z a (nat_abs d))))))
-      (rows_room (pow_pos (bits w)) rows (tt, (tt, tt)) (λ c. record { refusal = lit< tt; value = lt_of_lt_of_le (below (nat_abs d) (some d c.0) a) h }))
+      (rows_room (pow_pos (bits w)) rows tt (λ c. record { refusal = lit< tt; value = lt_of_lt_of_le (below (nat_abs d) (some d c.0) a) h }))
     where
       some : (d : ℤ) → eq_z d (pos 0) ≡ false → 0 < nat_abs d
       some (pos zero) e = absurd (let h : ◌≡◌ {A = ℕ} 0 1 = cc in omega arith)
@@ -66,7 +78,7 @@ module _ (w : Width) where
   next_room a d =
       let rows = row 3 (eq_z d (pos 0)) ∷ row 4 (outside w (next a d)) ∷ [] in
       subst (Room (2 ^ bits w)) (sym (mapped-unless (of_z w) rows (gives (next a d))))
-      (rows_room (pow_pos (bits w)) rows (tt, (tt, tt)) (λ c. record { refusal = lit< tt; value = (of_z_fits w (next a d) (record { sfits = leb-false _ _ c.1.0 })).fits }))
+      (rows_room (pow_pos (bits w)) rows tt (λ c. record { refusal = lit< tt; value = (of_z_fits w (next a d) (record { sfits = leb-false _ _ c.1.0 })).fits }))
 
 log_room : (n : ℕ) (z : ℤ) → mag z < n → Room n (log_of z)
 log_room n (pos zero) h = record { refusal = lit< tt; value = h }
@@ -107,7 +119,7 @@ operation_room (suc (suc (suc (suc (suc (suc op)))))) code a b h k = record { re
 pub answer_room : (op code a b : ℕ) → Room (limit code) (answer_of op code a b)
 unfolding answer_of
 answer_room op code a b =
-    rows_room (pow_pos (bits (width_of code))) (refusals op code a b) (tt, (tt, (tt, (tt, tt))))
+    rows_room (pow_pos (bits (width_of code))) (refusals op code a b) tt
     (λ c. operation_room op code a b (leb-false _ _ c.1.0) (leb-false _ _ c.1.1.0))
 
 -- ---- and 64 bits hold every value

@@ -1,24 +1,40 @@
 // Answers the records on standard input, in order and to its end, on standard output.
 ghost use Rattle.std.specs.Prelude.{◌≤◌, length};
-ghost use Rattle.answers.specs.Reply.{natural};
-ghost use Rattle.answers.specs.Answers.{means_u64};
+ghost use Rattle.record_program.specs.Filled.{ended_at};
 
 use answers::U64;
 use libc::{STDERR_FILENO, STDIN_FILENO, STDOUT_FILENO};
-use stream::Stream;
 
-// The state after a turn, and whether to go on.
+// How reading went: the buffer is full, the input ended after so many bytes, or a read failed.
 #[derive(Drop)]
-struct Next {
-    state: Stream,
-    goes_on: bool,
+enum Filled {
+    Full,
+    Ended(usize),
+    Failed,
 }
 
-// Writes what a call wrote, and says whether it could.
-fn put(reply: U64, output: &[u8]) -> bool
-    requires { natural (means_u64 reply) ≤ length output.now }
+// Reads until the buffer is full, however few bytes each read brings.
+fn fill(buffer: &mut [u8]) -> Filled
+    ensures { ended_at result ≤ length buffer.new }
 {
-    match reply {
+    let mut n = 0;
+    while n < buffer.len() {
+        let got = libc::read(STDIN_FILENO, &mut buffer[n..]);
+        if got < 0 {
+            return Filled::Failed;
+        }
+        let more = io::count(got, &buffer[n..]);
+        if more == 0 {
+            return Filled::Ended(n);
+        }
+        n += more;
+    }
+    Filled::Full
+}
+
+// Writes the answers to all the records of the input, and says whether it could.
+fn answer(input: &[u8], output: &mut [u8]) -> bool {
+    match records::many(input, output) {
         U64::Number(size) => {
             let n = size as usize;
             let is_written = io::write_all(STDOUT_FILENO, &output[..n]);
@@ -34,61 +50,29 @@ fn put(reply: U64, output: &[u8]) -> bool
     }
 }
 
-// What a read brought, however little: the answers to the records that it completes.
-fn take(state: Stream, fragment: &[u8], output: &mut [u8]) -> Next {
-    let fed = stream::feed(state, fragment, output);
-    let reply = fed.reply;
-    let goes_on = put(reply, output);
-    let next = fed.state;
-    Next {
-        state: next,
-        goes_on,
+// One turn: whole records as long as the input goes on, then what is left of it. Says whether to go on. The answers to
+// whole records, followed by those to the rest, are the answers to all (`answers-append` of records).
+fn turn(input: &mut [u8], output: &mut [u8]) -> bool {
+    match fill(input) {
+        Filled::Full => answer(input, output),
+        Filled::Ended(n) => {
+            answer(&input[..n], output);
+            false
+        }
+        Filled::Failed => {
+            os::fail(b"read");
+            false
+        }
     }
 }
 
-// The end of the input.
-fn finish(state: Stream, output: &mut [u8]) {
-    let fed = stream::end(state, output);
-    let reply = fed.reply;
-    put(reply, output);
-}
-
-// One turn: a read, and what it brings. However the reads cut the input, a stream's answers are those to all of it
-// (`any_cutting` of stream); what the system reads and writes is not proved of this program.
-fn turn(state: Stream, input: &mut [u8], output: &mut [u8]) -> Next {
-    let got = libc::read(STDIN_FILENO, input);
-    if got < 0 {
-        os::fail(b"read");
-        return Next {
-            state,
-            goes_on: false,
-        };
-    }
-    let n = io::count(got, input);
-    if n == 0 {
-        finish(state, output);
-        return Next {
-            state,
-            goes_on: false,
-        };
-    }
-    take(state, &input[..n], output)
-}
-
-// Room for 4,096 records and their answers: with the 16 bytes that may be kept a full input completes no more. A proved
-// loop has to end, and nothing says that the input does: the turns are counted down from a number that no run uses up.
+// Room for 4,096 records and their answers. A proved loop has to end, and nothing says that the input does: the turns are
+// counted down from a number that no run uses up.
 fn main() {
     let mut input = [0u8; 69_632];
     let mut output = [0u8; 36_864];
-    let mut state = stream::fresh();
     let mut turns = u64::MAX;
-    while turns > 0 {
-        let next = turn(state, &mut input, &mut output);
-        if !next.goes_on {
-            return;
-        }
-        let after = next.state;
-        state = after;
+    while turns > 0 && turn(&mut input, &mut output) {
         turns -= 1;
     }
 }

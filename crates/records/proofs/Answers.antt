@@ -15,9 +15,6 @@ length-answers zero input = refl
 length-answers (suc n) input =
     rw (length-append (answer_bytes (reply_to (take 17 input))) (answers_to n (drop 17 input)), nine_bytes (reply_to (take 17 input)), length-answers n (drop 17 input)) (omega arith)
 
-pub length_whole : (n : ℕ) (input : List ℕ) → length input ≡ 17 * n → length (answers input) ≡ 9 * n
-length_whole n input e = let m : records input ≡ n = rw e (omega arith) in length-answers (records input) input ∙ ap (λ k. 9 * k) m
-
 -- one answer more, at the end
 pub answers_next : (n : ℕ) (input : List ℕ) → answers_to (suc n) input ≡ answers_to n input ++ answer_bytes (reply_to (take 17 (drop (17 * n) input)))
 unfolding answers_to

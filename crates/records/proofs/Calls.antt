@@ -46,7 +46,3 @@ module _ (asked answer : List ℕ) {r : Done} where
     replies = p.replies ∙ sym (rw (eq-eqb (length asked) 17 n, eq-eqb (length answer) 9 m));
     leaves_answer = p.leaves_answer ∙ sym (rw (eq-eqb (length asked) 17 n, eq-eqb (length answer) 9 m));
   }
-
--- both lengths are right: the answer's bytes are written
-pub one_writes : {asked answer answer' : List ℕ} {r : Done} → One asked answer r answer' → length asked ≡ 17 → length answer ≡ 9 → answer' ≡ answer_bytes (reply_to asked)
-one_writes {asked} {answer} p n m = p.leaves_answer ∙ rw (eq-eqb (length asked) 17 n, eq-eqb (length answer) 9 m)

@@ -1,10 +1,9 @@
--- The rows of docs/RULES.md, 'Either side of the edge', that are marked theorem, as one theorem about the definitions; and its three records.
+-- The rows of the rules' table that are marked T, as one theorem about the definitions; and the whole case of three records.
 use mathlib.Core.Path.{◌≡◌, refl}
 use mathlib.Core.List.{List, [], ◌∷◌, ◌++◌, map}
 use Prim.Native.Nat.{ℕ}
 use lib.IntN.{ℤ, pos, neg_ℤ}
-use mir.Syntax.{Width, w8, w16, w32, w64}
-use mir.Val.{bits}
+use mir.Syntax.{w8}
 use Rattle.fields.specs.Fields.{packed, unpacked, number, bytes, encode, decode}
 use Rattle.answers.specs.Reply.{Reply, gives, refused, mapped}
 use Rattle.int_sqrt.specs.Root.{root, root_of}
@@ -40,21 +39,16 @@ minus n = neg_ℤ (pos n)
 abbrev plain : Reply ℕ → Reply ℤ
 plain = mapped pos
 
--- a row that names no width, at each
-abbrev each : (Width → Case) → List Case
-each f = map f (w8 ∷ w16 ∷ w32 ∷ w64 ∷ [])
-
 abbrev pub rows : List Case
 rows =
-    (case (root_of (pos 0)) (gives (pos 0)) ∷ case (root_of (pos 3)) (gives (pos 1)) ∷ case (root_of (pos 4)) (gives (pos 2))
+    case (root_of (pos 0)) (gives (pos 0)) ∷ case (root_of (pos 3)) (gives (pos 1)) ∷ case (root_of (pos 4)) (gives (pos 2))
     ∷ case (root_of (pos 65280)) (gives (pos 255))
     ∷ case (root_of (pos 127)) (gives (pos 11)) ∷ case (root_of (minus 1)) (refused 1)
-    ∷ case (plain (log_of (pos 9))) (gives (pos 0)) ∷ case (plain (log_of (pos 10))) (gives (pos 1)) ∷ [])
-    ++ each (λ w. case (plain (gives (gather (bits w) 0b10110110 0b11001010))) (gives (pos 0b1001)))
-    ++ each (λ w. case (plain (gives (scatter (bits w) 0b1001 0b11001010))) (gives (pos 0b10000010)))
-    ++ (case (rem_euclid w8 (minus 7) (minus 4)) (gives (pos 1)) ∷ case (rem_euclid w8 (minus 1) (minus 128)) (gives (pos 127)) ∷ [])
-    ++ each (λ w. case (next_multiple w (pos 23) (minus 8)) (gives (pos 16)))
-    ++ each (λ w. case (next_multiple w (minus 23) (pos 8)) (gives (minus 16)))
+    ∷ case (plain (log_of (pos 9))) (gives (pos 0)) ∷ case (plain (log_of (pos 10))) (gives (pos 1))
+    ∷ case (plain (gives (gather 8 0b10110110 0b11001010))) (gives (pos 0b1001))
+    ∷ case (plain (gives (scatter 8 0b1001 0b11001010))) (gives (pos 0b10000010))
+    ∷ case (rem_euclid w8 (minus 7) (minus 4)) (gives (pos 1)) ∷ case (rem_euclid w8 (minus 1) (minus 128)) (gives (pos 127))
+    ∷ case (next_multiple w8 (pos 23) (minus 8)) (gives (pos 16)) ∷ case (next_multiple w8 (minus 23) (pos 8)) (gives (minus 16)) ∷ []
 
 pub cases : All rows
 unfolding root log gather scatter rem_euclid exact next_multiple

@@ -1,6 +1,6 @@
 -- The loop of `many`: the answers so far stand in front of the output.
 use mathlib.Core.Path.{◌≡◌, refl, sym, ap, ◌∙◌}
-use mathlib.Core.List.{List, ◌++◌, append_assoc}
+use mathlib.Core.List.{List, [], ◌∷◌, ◌++◌, append_assoc}
 use Prim.Native.Nat.{ℕ, ◌+◌, ◌-◌, ◌*◌, ◌<◌, ◌≤◌, min}
 use native.Mathlib.Decide.{dec_le}
 use native.Mathlib.Nat.{le_antisymm}
@@ -8,13 +8,15 @@ use native.Mathlib.Numerals.{add-one}
 use native.Mathlib.Omega.{arith}
 use borrow.Author.Tests.{lt-ltb, le-ltb}
 use borrow.Rule.Slice.PartMut.{put_mid}
+use lib.Dec.{ltb}
 use lib.ListN.{length, take, drop, length-append, length-drop}
 use lib.Seq.{take_all, take_at, drop_at, drop-drop}
-use Rattle.answers.specs.Reply.{gives, refused}
+use Rattle.answers.specs.Reply.{gives, refused, row, leaves}
 use Rattle.answers.specs.Answers.{means_u64}
+use Rattle.answers.proofs.Rows.{accepted_only_if}
 use Rattle.answers.specs.declared.Done.{Done}
 use Rattle.answers.specs.declared.U64.{U64}
-use Rattle.records.specs.Records.{answers_to, records, answers, reply_to, answer_bytes, Responds, in_front, Many}
+use Rattle.records.specs.Records.{answers_to, records, answers, reply_to, answer_bytes, Responds, many_reply, Many}
 use Rattle.records.proofs.Answers.{length-answers, answers_next}
 
 pub record Answered (input output₀ output : List ℕ) (i : ℕ) : Type 0 where
@@ -81,6 +83,12 @@ module _ (input output : List ℕ) {r : U64} where
         leaves_output = a.is ∙ rw (n, room, long);
       }
 
--- given room, the answers stand in front of the output
-pub many_writes : {input output output' : List ℕ} {r : U64} → Many input output r output' → length (answers input) ≤ length output → output' ≡ in_front input output
-many_writes {input} {output} p h = p.leaves_output ∙ rw (le-ltb (length output) (length (answers input)) h)
+-- the bytes that `many` says it wrote lie within the output
+pub many_within : {input output output' : List ℕ} {r : U64} {n : ℕ} → Many input output r output' → means_u64 r ≡ gives n → n ≤ length output'
+many_within {input} {output} {output'} {n = n} p e =
+    let reply : many_reply input output ≡ gives n = sym p.replies ∙ e in
+    let (c, q) = accepted_only_if (row 10 (ltb (length output) (length (answers input))) ∷ []) reply in
+    let same : length (answers input) ≡ n = cc in
+    let rest = drop (length (answers input)) output in
+    let is : output' ≡ answers input ++ rest = p.leaves_output ∙ ap (λ m. leaves m (answers input ++ rest) output) reply in
+    omega (arith, ap length is ∙ length-append (answers input) rest)

@@ -33,7 +33,7 @@ pub reply_room : (asked : List ℕ) → Room (2 ^ 64) (reply_to asked)
 unfolding reply_to
 reply_room asked =
     let f = decode record_layout asked in
-    rows_room (pow_pos 64) (row 13 (not (eqb (length asked) 17)) ∷ []) (tt, tt) (λ c. answer_word (get_or f 0 0) (get_or f 1 0) (get_or f 2 0) (get_or f 3 0))
+    rows_room (pow_pos 64) (row 13 (not (eqb (length asked) 17)) ∷ []) tt (λ c. answer_word (get_or f 0 0) (get_or f 1 0) (get_or f 2 0) (get_or f 3 0))
 
 pub answer_back : (asked : List ℕ) → decode answer_layout (answer_bytes (reply_to asked)) ≡ refusal_of (reply_to asked) ∷ 0 ∷ natural (reply_to asked) ∷ []
 unfolding answer_bytes

@@ -63,14 +63,10 @@ answers_to (suc n) input = answer_bytes (reply_to (take 17 input)) ++ answers_to
 abbrev pub answers : List ℕ → List ℕ
 answers input = answers_to (records input) input
 
--- the answers to an input in front of an output
-abbrev pub in_front : List ℕ → List ℕ → List ℕ
-in_front input output = answers input ++ drop (length (answers input)) output
-
 -- refused where the output has no room for all answers; else how many bytes they are
 abbrev pub many_reply : List ℕ → List ℕ → Reply ℕ
 many_reply input output = unless (row 10 (ltb (length output) (length (answers input))) ∷ []) (gives (length (answers input)))
 
 pub record Many (input output : List ℕ) (r : U64) (output' : List ℕ) : Type 0 where
   pub replies : means_u64 r ≡ many_reply input output
-  pub leaves_output : output' ≡ leaves (many_reply input output) (in_front input output) output
+  pub leaves_output : output' ≡ leaves (many_reply input output) (answers input ++ drop (length (answers input)) output) output

@@ -1,4 +1,4 @@
--- The formulas have the rules' properties (`-has`), and each property determines the result (`-only`). Assumes nothing.
+-- The definitions have the document's properties (`-is`), and each property determines the result (`-only`). Assumes nothing.
 use mathlib.Core.Path.{◌≡◌, refl, sym, ap, ◌∙◌, subst}
 use Prim.Native.Nat.{ℕ, zero, suc, ◌+◌, ◌-◌, ◌*◌, ◌%◌, ◌^◌, ◌≤◌, ◌<◌}
 use native.Mathlib.Nat.{mod-le, mod-eq_of_lt, le_antisymm, zero-add, zero-mul}
@@ -8,12 +8,11 @@ use lib.Pow.{pow_pos}
 use lib.IntN.{ℤ, pos, negsuc, neg_ℤ, nat_abs, ◌+ℤ◌, ◌-ℤ◌, ◌*ℤ◌, +ℤ_assoc, +ℤ_comm, +ℤ_idl, -ℤ-+ℤ_cancel, +ℤ-neg_ℤ_cancel, neg_ℤ-+ℤ, neg_ℤ-neg_ℤ, *ℤ-negsuc}
 use lib.Signed.{◌≤ℤ◌, ◌<ℤ◌, le_z_yes, lt_z_yes}
 use mir.Syntax.{Width}
-use mir.Val.{bits}
-use Rattle.signed.specs.Signed.{mod_z, wrap, next}
+use mir.Val.{bits, hbits, SFits}
+use Rattle.signed.specs.Signed.{mod_z, min_z, wrap, next}
 use Rattle.signed.specs.Words.{Multiple, IsRemainder, IsLeast, IsGreatest, IsWrapped}
 use Rattle.laws.proofs.Order.{sub_cases, pos-minus}
 use Rattle.signed.proofs.ModZ.{below, mod_shift, mod_split, mod_only, mod-add}
-use Rattle.signed.proofs.Range.{fits_is}
 use Rattle.signed.proofs.Wrap.{in_range, mod_wrap, wrap_same, wrap_fits, cancel}
 
 -- ---- the order by sums
@@ -84,49 +83,42 @@ over m p a y t (q, e) h = ap (λ z. mod_z z m) (h ∙ +ℤ_comm y (pos t) ∙ ap
 
 -- ---- the remainder
 
-pub remainder_has : (a d : ℤ) → 0 < nat_abs d → IsRemainder a d (pos (mod_z a (nat_abs d)))
-remainder_has a d p = record {
+pub remainder_is : (a d : ℤ) → 0 < nat_abs d → IsRemainder a d (pos (mod_z a (nat_abs d)))
+remainder_is a d p = record {
   low = le_z_yes (le→leb 0 (mod_z a (nat_abs d)) (omega arith));
   high = lt_z_yes (lt→ltb (mod_z a (nat_abs d)) (nat_abs d) (below (nat_abs d) p a));
   multiple = from_abs d (a -ℤ pos (mod_z a (nat_abs d))) (rest (nat_abs d) p a);
 }
 
-the_remainder : (a d r : ℤ) → IsRemainder a d r → r ≡ pos (mod_z a (nat_abs d))
-the_remainder a d (pos n) h =
+pub remainder_only : (a d r : ℤ) → IsRemainder a d r → r ≡ pos (mod_z a (nat_abs d))
+remainder_only a d (pos n) h =
     let (q, e) = to_abs d (a -ℤ pos n) h.multiple in
     let l : n < nat_abs d = ltb→lt n (nat_abs d) h.high.lt in
     ap pos (sym (mod_only (nat_abs d) (omega arith) a q n l (sym (plus_minus a (pos n)) ∙ ap (λ z. pos n +ℤ z) e)))
-the_remainder a d (negsuc n) h = absurd h.low.le
-
-pub remainder_only : (a d r s : ℤ) → IsRemainder a d r → IsRemainder a d s → r ≡ s
-remainder_only a d r s h k = the_remainder a d r h ∙ sym (the_remainder a d s k)
+remainder_only a d (negsuc n) h = absurd h.low.le
 
 -- ---- the next multiple
 
-pub least_has : (a d : ℤ) → pos 0 <ℤ d → IsLeast a d (next a d)
-least_has a (negsuc k) l = absurd l.lt
-least_has a (pos m) l =
-    let p : 0 < m = ltb→lt 0 m l.lt in
-    record {
-      multiple =
-          subst (Multiple (pos m))
-          (neg_ℤ-+ℤ (neg_ℤ a) (neg_ℤ (pos (mod_z (neg_ℤ a) m))) ∙ ap (λ z. z +ℤ neg_ℤ (neg_ℤ (pos (mod_z (neg_ℤ a) m)))) (neg_ℤ-neg_ℤ a) ∙ ap (λ z. a +ℤ z) (neg_ℤ-neg_ℤ (pos (mod_z (neg_ℤ a) m))))
-          (negated m (neg_ℤ a -ℤ pos (mod_z (neg_ℤ a) m)) (rest m p (neg_ℤ a)));
-      reaches = le_plus a (mod_z (neg_ℤ a) m);
-      least = λ y h l.
-          let (t, e) = plus_of a y l in
-          let same : mod_z (neg_ℤ a) m ≡ t % m =
-          over m p (neg_ℤ a) (neg_ℤ y) t (negated m y h)
-          (sym (ap (λ z. z +ℤ pos t) (ap neg_ℤ e ∙ neg_ℤ-+ℤ a (pos t)) ∙ -ℤ-+ℤ_cancel (neg_ℤ a) (pos t))) in
-          subst (λ z. (a +ℤ pos (mod_z (neg_ℤ a) m)) ≤ℤ z) (sym e) (le_more a (mod_z (neg_ℤ a) m) t (omega (arith, same, mod-le t m)));
-    }
+pub least_is : (a : ℤ) (m : ℕ) → 0 < m → IsLeast a (pos m) (next a (pos m))
+least_is a m p = record {
+  multiple =
+      subst (Multiple (pos m))
+      (neg_ℤ-+ℤ (neg_ℤ a) (neg_ℤ (pos (mod_z (neg_ℤ a) m))) ∙ ap (λ z. z +ℤ neg_ℤ (neg_ℤ (pos (mod_z (neg_ℤ a) m)))) (neg_ℤ-neg_ℤ a) ∙ ap (λ z. a +ℤ z) (neg_ℤ-neg_ℤ (pos (mod_z (neg_ℤ a) m))))
+      (negated m (neg_ℤ a -ℤ pos (mod_z (neg_ℤ a) m)) (rest m p (neg_ℤ a)));
+  reaches = le_plus a (mod_z (neg_ℤ a) m);
+  least = λ y h l.
+      let (t, e) = plus_of a y l in
+      let same : mod_z (neg_ℤ a) m ≡ t % m =
+      over m p (neg_ℤ a) (neg_ℤ y) t (negated m y h)
+      (sym (ap (λ z. z +ℤ pos t) (ap neg_ℤ e ∙ neg_ℤ-+ℤ a (pos t)) ∙ -ℤ-+ℤ_cancel (neg_ℤ a) (pos t))) in
+      subst (λ z. (a +ℤ pos (mod_z (neg_ℤ a) m)) ≤ℤ z) (sym e) (le_more a (mod_z (neg_ℤ a) m) t (omega (arith, same, mod-le t m)));
+}
 
 pub least_only : (a d y z : ℤ) → IsLeast a d y → IsLeast a d z → y ≡ z
 least_only a d y z h k = antisymm y z (h.least z k.multiple k.reaches) (k.least y h.multiple h.reaches)
 
-pub greatest_has : (a d : ℤ) → d <ℤ pos 0 → IsGreatest a d (next a d)
-greatest_has a (pos m) l = absurd (omega (arith, ltb→lt m 0 l.lt))
-greatest_has a (negsuc k) l = record {
+pub greatest_is : (a : ℤ) (k : ℕ) → IsGreatest a (negsuc k) (next a (negsuc k))
+greatest_is a k = record {
   multiple = from_abs (negsuc k) (next a (negsuc k)) (rest (suc k) (omega arith) a);
   within = subst (λ z. (a -ℤ pos (mod_z a (suc k))) ≤ℤ z) (-ℤ-+ℤ_cancel a (pos (mod_z a (suc k)))) (le_plus (a -ℤ pos (mod_z a (suc k))) (mod_z a (suc k)));
   greatest = λ y h l.
@@ -153,10 +145,20 @@ differ m p x y e =
     ∙ sym (ap (λ n. n % m) (zero-add (mod_z y m)) ∙ mod-eq_of_lt (below m p y))))
 
 pub wrapped_is : (w : Width) (z : ℤ) → IsWrapped w z (wrap w z)
-wrapped_is w z = record { fits = (fits_is w (wrap w z)).0 (in_range w z); multiple = differ (2 ^ bits w) (pow_pos (bits w)) z (wrap w z) (mod_wrap w z) }
+wrapped_is w z = record { fits = in_range w z; multiple = differ (2 ^ bits w) (pow_pos (bits w)) z (wrap w z) (mod_wrap w z) }
 
 pub wrapped_only : (w : Width) (z r : ℤ) → IsWrapped w z r → r ≡ wrap w z
 wrapped_only w z r h =
     let (q, e) = h.multiple in
-    sym (wrap_fits w r ((fits_is w r).1 h.fits))
+    sym (wrap_fits w r h.fits)
     ∙ wrap_same w r z (sym (ap (λ y. mod_z y (2 ^ bits w)) (sym (plus_minus z r) ∙ ap (λ y. r +ℤ y) e) ∙ mod_shift (2 ^ bits w) (pow_pos (bits w)) r q))
+
+-- ---- what a width holds: −2 ^ (width − 1) ≤ z < 2 ^ (width − 1)
+
+pub range_of : (w : Width) (z : ℤ) → SFits w z → (min_z w ≤ℤ z) × (z <ℤ pos (2 ^ hbits w))
+range_of w (pos n) f = (le_z_yes tt, lt_z_yes (lt→ltb n (2 ^ hbits w) f.sfits))
+range_of w (negsuc n) f = (le_z_yes (le→leb n (2 ^ hbits w - 1) (omega (arith, f.sfits))), lt_z_yes tt)
+
+pub of_range : (w : Width) (z : ℤ) → min_z w ≤ℤ z → z <ℤ pos (2 ^ hbits w) → SFits w z
+of_range w (pos n) h k = record { sfits = ltb→lt n (2 ^ hbits w) k.lt }
+of_range w (negsuc n) h k = record { sfits = omega (arith, leb→le n (2 ^ hbits w - 1) h.le, pow_pos (hbits w)) }

@@ -1,4 +1,3 @@
--- The definitions that the contracts cite, and the rules' sentences about them.
+-- The definitions that the contracts cite, and document 01's sentences about them.
 pub mod Signed
 pub mod Words
-pub mod Accepts

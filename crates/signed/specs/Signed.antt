@@ -16,12 +16,9 @@ eq_z (pos a) (negsuc b) = false
 eq_z (negsuc a) (pos b) = false
 eq_z (negsuc a) (negsuc b) = eqb a b
 
--- the least and the greatest number of the width: −2^(width − 1) and 2^(width − 1) − 1
+-- MIN of the width
 abbrev pub min_z : Width → ℤ
-min_z w = neg_ℤ (pos (2 ^ (bits w - 1)))
-
-abbrev pub max_z : Width → ℤ
-max_z w = pos (2 ^ (bits w - 1) - 1)
+min_z w = negsuc (2 ^ hbits w - 1)
 
 abbrev pub absolute : ℤ → ℤ
 absolute a = pos (nat_abs a)

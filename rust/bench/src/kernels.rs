@@ -39,20 +39,21 @@ fn roots_and_logs() -> Vec<Row> {
         ply_ilog10_u32_value(v: u32) -> u32 = oracle::ilog10_u32(v).unwrap_or(0);
         ply_ilog10_u64_value(v: u64) -> u32 = oracle::ilog10_u64(v).unwrap_or(0);
         ply_ilog10_i64_value(v: i64) -> u32 = oracle::ilog10_i64(v).unwrap_or(0);
-        ply_digit_count(v: u64) -> u32 = oracle::ilog10_u64(v).map_or(1, |log| log + 1);
+        ply_digit_count_value(v: u64) -> u32 = oracle::ilog10_u64(v).map_or(0, |log| log + 1);
     }
 }
 
-/// Those at 64 bits stand apart (`runs`).
 fn bits() -> Vec<Row> {
     rows! {
         masks;
         ply_gather_u8(x: u8, mask: u8) -> u8 = oracle::extract_u8(x, mask);
         ply_gather_u16(x: u16, mask: u16) -> u16 = oracle::extract_u16(x, mask);
         ply_gather_u32(x: u32, mask: u32) -> u32 = oracle::extract_u32(x, mask);
+        ply_gather_u64(x: u64, mask: u64) -> u64 = oracle::extract_u64(x, mask);
         ply_scatter_u8(x: u8, mask: u8) -> u8 = oracle::deposit_u8(x, mask);
         ply_scatter_u16(x: u16, mask: u16) -> u16 = oracle::deposit_u16(x, mask);
         ply_scatter_u32(x: u32, mask: u32) -> u32 = oracle::deposit_u32(x, mask);
+        ply_scatter_u64(x: u64, mask: u64) -> u64 = oracle::deposit_u64(x, mask);
     }
 }
 

@@ -8,10 +8,7 @@ mod batches;
 mod function;
 mod kernels;
 mod program;
-mod records;
 mod row;
-mod runs;
-mod streams;
 
 use row::{Round, Row};
 use std::error::Error;
@@ -29,7 +26,7 @@ struct Table {
     rows: Vec<Row>,
 }
 
-fn tables() -> [Table; 3] {
+fn tables() -> [Table; 2] {
     [
         Table {
             per: "a call",
@@ -37,19 +34,9 @@ fn tables() -> [Table; 3] {
             rows: kernels::rows(),
         },
         Table {
-            per: "a call",
-            beside: "the Rust",
-            rows: runs::rows(),
-        },
-        Table {
             per: "a word",
             beside: "a call for each",
             rows: batches::rows(),
-        },
-        Table {
-            per: "a record",
-            beside: "a call for each",
-            rows: streams::rows(),
         },
     ]
 }

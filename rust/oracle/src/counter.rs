@@ -44,13 +44,12 @@ impl Counter {
     }
 
     /// Compares a call that is lent a slice: its answer, and what the slice holds afterwards.
-    pub fn lent<E, W>(
+    pub fn lent<W>(
         &mut self,
         input: impl Debug,
-        ours: (Result<(), E>, &[W]),
-        model: (Result<(), E>, &[W]),
+        ours: (Result<(), u8>, &[W]),
+        model: (Result<(), u8>, &[W]),
     ) where
-        E: PartialEq + Debug,
         W: PartialEq + Debug,
     {
         assert!(

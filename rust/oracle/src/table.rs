@@ -43,38 +43,14 @@ pub fn read(table: &[u64], card: usize, mask: u64) -> Result<u64, u8> {
     Ok(gathered(*word, mask))
 }
 
-/// Why a write is refused: the refusal's number, and the number that it carries, 0 for all but 9.
-#[derive(Clone, Copy, Debug, PartialEq, Eq)]
-pub struct Refused(pub u8, pub u64);
-
-impl Refused {
-    /// What a C function tells of an answer: the refusal's number or 0, and the number that it carries or 0.
-    pub fn told(answer: Result<(), Refused>) -> (u8, u64) {
-        answer.map_or_else(|Refused(number, carried)| (number, carried), |()| (0, 0))
-    }
-}
-
-/// A refusal that carries nothing.
-impl From<u8> for Refused {
-    fn from(number: u8) -> Refused {
-        Refused(number, 0)
-    }
-}
-
-/// A guarded write, or its refusal.
-pub fn write(
-    table: &mut [u64],
-    card: usize,
-    mask: u64,
-    expected: u64,
-    new: u64,
-) -> Result<(), Refused> {
-    let there = read(table, card, mask)?;
+/// A guarded write, or its refusal's number.
+pub fn write(table: &mut [u64], card: usize, mask: u64, expected: u64, new: u64) -> Result<(), u8> {
+    let number = read(table, card, mask)?;
     if too_wide(expected, mask) || too_wide(new, mask) {
-        return Err(TOO_WIDE.into());
+        return Err(TOO_WIDE);
     }
-    if there != expected {
-        return Err(Refused(DIFFERS, there));
+    if number != expected {
+        return Err(DIFFERS);
     }
     table[card] = stored(table[card], mask, new);
     Ok(())

@@ -1,10 +1,7 @@
 //! The card table through the C functions: every call compared with the plain table, on damaged arguments too.
 
-use oracle::table::{self, Refused};
-use oracle::{masks, Counter, Random};
-use plyorchard::{
-    card_read, card_read_answer, card_read_call, card_write, card_write_call, Refusal,
-};
+use oracle::{masks, table, Counter, Random};
+use plyorchard::{card_read, card_read_answer, card_write, Refusal};
 
 /// Lengths on either side of the limit, and the shortest.
 const LENGTHS: [usize; 5] = [0, 1, 4095, 4096, 4097];
@@ -22,57 +19,38 @@ fn widths(mask: u64) -> [u64; 6] {
     [0, 1, most, past, past.wrapping_add(1), u64::MAX]
 }
 
-/// The tables that the C functions and the safe ones write, and the plain one.
+/// The table that the C functions write, and the plain one.
 struct Tables {
     ours: Vec<u64>,
-    safe: Vec<u64>,
     model: Vec<u64>,
     calls: Counter,
 }
 
 impl Tables {
-    /// Equal tables of random words.
+    /// Two equal tables of random words.
     fn new(run: &'static str, length: usize) -> Tables {
         let mut random = Random::new(length as u64);
         let ours: Vec<u64> = (0..length).map(|_| random.bits()).collect();
-        let (safe, model) = (ours.clone(), ours.clone());
-        let calls = Counter::new(run);
-        Tables {
-            ours,
-            safe,
-            model,
-            calls,
-        }
+        let (model, calls) = (ours.clone(), Counter::new(run));
+        Tables { ours, model, calls }
     }
 
-    /// Compares a read: the pair of C functions and the safe one, then the one C function, which is lent a number that is
-    /// not the right one.
+    /// Compares a read: both C functions and the safe one.
     fn read(&mut self, card: usize, mask: u64) {
-        let right = table::read(&self.model, card, mask);
-        let pair = card_read_answer(&self.ours, card, mask);
-        let numbers = (pair.refusal, pair.value);
+        let answer = card_read_answer(&self.ours, card, mask);
+        let numbers = (answer.refusal, answer.value);
         let safe = card_read(&self.ours, card, mask).map_err(Refusal::number);
+        let right = table::read(&self.model, card, mask);
         self.calls.answer((card, mask), safe, numbers, right);
-        let mut number = !pair.value;
-        let refusal = card_read_call(&self.ours, card, mask, &mut number);
-        self.calls.value((card, mask), (refusal, number), numbers);
-        assert!(self.ours == self.model, "a read changed the table");
     }
 
-    /// Compares a write of the safe function and one of the C function, which is lent a number that is not the right one:
-    /// the answer with what it carries, and the whole table that it leaves.
+    /// Compares a write: its answer, and the whole table that it leaves.
     fn write(&mut self, card: usize, mask: u64, expected: u64, new: u64) {
-        let input = (card, mask, expected, new);
+        let answer = card_write(&mut self.ours, card, mask, expected, new);
         let right = table::write(&mut self.model, card, mask, expected, new);
-        let answer = card_write(&mut self.safe, card, mask, expected, new);
-        let answer = answer.map_err(|refusal| Refused(refusal.number(), refusal.carried()));
-        let model = (right, &*self.model);
-        self.calls.lent(input, (answer, &*self.safe), model);
-        let told = Refused::told(right);
-        let mut found = !told.1;
-        let refusal = card_write_call(&mut self.ours, card, mask, expected, new, &mut found);
-        self.calls.value(input, (refusal, found), told);
-        assert!(self.ours == self.model, "{input:?}: another table");
+        let input = (card, mask, expected, new);
+        let ours = (answer.map_err(Refusal::number), &*self.ours);
+        self.calls.lent(input, ours, (right, &*self.model));
     }
 
     /// Writes of the number that is there, of others beside it, and of numbers too wide for the mask.

@@ -30,7 +30,7 @@ fn what_is_no_entry_is_left_over() {
     let list = edges().stdin;
     let cut = wrote(&list[..list.len() - 1]);
     assert!(
-        cut.ends_with("card_write: 539 right, 0 wrong\nleft over: 65 bytes\n"),
+        cut.ends_with("card_write: 539 right, 0 wrong\nleft over: 57 bytes\n"),
         "{cut}"
     );
     let more = wrote(&[&list[..], &[37, 0]].concat());

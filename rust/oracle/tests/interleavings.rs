@@ -1,6 +1,5 @@
-//! Every order of tills, tried: random interleavings of redemptions through the C functions, in which a till that is
-//! refused with 9 may retry from the number that the refusal carries. What they leave is compared with the accepted
-//! redemptions run whole on a plain table, in the order of their writes.
+//! Every order of tills, tried: random interleavings of redemptions through the C functions. What they leave is compared
+//! with the accepted redemptions run whole on a plain table, in the order of their writes.
 
 use oracle::{table, Random};
 use plyorchard::{card_read, card_write, Refusal};
@@ -16,16 +15,6 @@ enum Change {
 }
 
 impl Change {
-    /// One of a small number.
-    fn any(random: &mut Random) -> Change {
-        let amount = random.bits() % 4;
-        random.pick(&[
-            Change::Take(amount),
-            Change::Add(amount),
-            Change::Set(amount),
-        ])
-    }
-
     fn next(self, number: u64) -> u64 {
         match self {
             Change::Take(amount) => number.saturating_sub(amount),
@@ -42,14 +31,12 @@ struct Redemption {
     change: Change,
 }
 
-/// A redemption that has read this number or, as a retry, was told it by a refusal, and how many writes to its card were
-/// accepted since.
+/// A redemption that has read this number, and how many writes to its card were accepted since.
 #[derive(Clone, Copy, Debug)]
 struct Held {
     redemption: Redemption,
     number: u64,
     since: usize,
-    retry: bool,
 }
 
 /// How often each thing happened that the schedules should try.
@@ -58,9 +45,6 @@ struct Tally {
     accepted: usize,
     accepted_though_others_wrote: usize,
     stale: usize,
-    retries: usize,
-    retries_accepted: usize,
-    retries_stale: usize,
     too_wide: usize,
     reads_refused: usize,
     reads_that_start_nothing: usize,
@@ -70,10 +54,8 @@ struct Tally {
 impl Tally {
     fn least(&self) -> usize {
         let writes = self.accepted_though_others_wrote.min(self.stale);
-        let retries = self.retries_accepted.min(self.retries_stale);
         let reads = self.reads_refused.min(self.reads_that_start_nothing);
-        let calls = writes.min(retries).min(reads);
-        calls.min(self.too_wide).min(self.never_written)
+        writes.min(self.too_wide).min(reads).min(self.never_written)
     }
 }
 
@@ -104,7 +86,12 @@ impl Shop {
 
     /// A redemption of small numbers; now and then of a card or a mask that is not there.
     fn redemption(&self, random: &mut Random) -> Redemption {
-        let change = Change::any(random);
+        let amount = random.bits() % 4;
+        let change = random.pick(&[
+            Change::Take(amount),
+            Change::Add(amount),
+            Change::Set(amount),
+        ]);
         let card = random.below(8 * self.table.len() + 1) / 8;
         let mask = random.pick(&self.masks);
         let mask = if random.below(16) == 0 { 0 } else { mask };
@@ -126,27 +113,11 @@ impl Shop {
             redemption,
             number,
             since: 0,
-            retry: false,
-        });
-    }
-
-    /// A refusal 9 counts as the read of one new redemption of the same field, whichever it is: a till that starts it waits
-    /// with the number that was carried, which is what a read would give.
-    fn retry(&mut self, till: usize, held: Held, found: u64, random: &mut Random) {
-        let Redemption { card, mask, change } = held.redemption;
-        assert_eq!(table::read(&self.table, card, mask), Ok(found));
-        let other = Change::any(random);
-        let change = random.pick(&[change, other]);
-        self.tills[till] = Some(Held {
-            redemption: Redemption { card, mask, change },
-            number: found,
-            since: 0,
-            retry: true,
         });
     }
 
     /// A till that waits writes, expecting the number that it read.
-    fn write(&mut self, till: usize, held: Held, random: &mut Random, tally: &mut Tally) {
+    fn write(&mut self, held: Held, tally: &mut Tally) {
         let Redemption { card, mask, change } = held.redemption;
         let before = self.table.clone();
         match card_write(
@@ -159,7 +130,6 @@ impl Shop {
             Ok(()) => {
                 tally.accepted += 1;
                 tally.accepted_though_others_wrote += usize::from(held.since > 0);
-                tally.retries_accepted += usize::from(held.retry);
                 let waiting = self.tills.iter_mut().flatten();
                 waiting
                     .filter(|other| other.redemption.card == card)
@@ -169,14 +139,7 @@ impl Shop {
             Err(refusal) => {
                 assert_eq!(before, self.table, "a refused write changed the table");
                 match refusal {
-                    Refusal::Differs { found } => {
-                        tally.stale += 1;
-                        tally.retries_stale += usize::from(held.retry);
-                        if random.below(2) == 0 {
-                            tally.retries += 1;
-                            self.retry(till, held, found, random);
-                        }
-                    }
+                    Refusal::Differs => tally.stale += 1,
                     Refusal::TooWide => tally.too_wide += 1,
                     other => panic!("a write after a read got {other}"),
                 }
@@ -190,7 +153,7 @@ impl Shop {
         match self.tills[till].take() {
             None => self.read(till, random, tally),
             Some(_) if random.below(8) == 0 => tally.never_written += 1,
-            Some(held) => self.write(till, held, random, tally),
+            Some(held) => self.write(held, tally),
         }
     }
 }

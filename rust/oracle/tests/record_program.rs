@@ -4,12 +4,12 @@ use oracle::lists::records;
 use oracle::record::answers;
 use oracle::{program, Counter, Random};
 use std::fs::File;
-use std::io::{Read, Write};
+use std::io::Write;
 use std::process::{Command, Output, Stdio};
 use std::thread;
 use std::time::Duration;
 
-/// How many bytes the program takes in one read: 4,096 records.
+/// How many bytes the program reads before it answers: 4,096 records.
 const ROOM: usize = 4096 * 17;
 
 /// The program, with what it writes and says kept.
@@ -88,34 +88,6 @@ fn the_list_cut_anywhere_and_joined() {
     let records = &input[..input.len() / 17 * 17];
     let joined = [records, records, &input].concat();
     compare(&mut calls, &joined, || joined.len());
-}
-
-#[test]
-fn a_record_is_answered_while_the_input_goes_on() {
-    let input = records().stdin;
-    let mut calls = Counter::new("record program, an input that waits");
-    let mut child = command()
-        .stdin(Stdio::piped())
-        .spawn()
-        .expect("the program starts");
-    let mut stdin = child.stdin.take().expect("a pipe");
-    let mut stdout = child.stdout.take().expect("a pipe");
-    let mut answer = [0; 9];
-    let mut read = 0;
-    for piece in input[..170].chunks(6) {
-        stdin.write_all(piece).expect("the program reads on");
-        read += piece.len();
-        if read % 17 < piece.len() {
-            stdout.read_exact(&mut answer).expect("an answer");
-            let record = &input[read / 17 * 17 - 17..][..17];
-            calls.value(read, answer.to_vec(), answers(record));
-        }
-    }
-    drop(stdin);
-    let mut rest = Vec::new();
-    stdout.read_to_end(&mut rest).expect("the program ends");
-    calls.value(read, rest, answers(&input[read / 17 * 17..read]));
-    assert!(child.wait().expect("the program ends").success());
 }
 
 #[test]

@@ -1,10 +1,8 @@
 //! The guarded card table: a slice of words, one for each card, whose fields lie under masks.
 //!
 //! A till reads a field and later writes it, expecting the number that it read. Whatever other tills did in between, the
-//! table is then as if each accepted till had read and written at once, one after the other, if nothing else writes it:
-//! that is proved of every history of calls of `ply_card_read`, `ply_card_write` and `ply_journal_write`. [`card_read`] and
-//! [`card_write`] are one such call each; the Rust over it is compared, not proved. A write that finds another number says
-//! which, and a till may go on from that number as if it had read it.
+//! table is then as if each accepted till had read and written at once, one after the other: that is proved of every
+//! interleaving of [`card_read`] and [`card_write`], if nothing else writes the table.
 
 use crate::calls::Answer;
 use crate::Refusal;
@@ -23,16 +21,13 @@ use crate::Refusal;
 /// assert_eq!(card_read(&table, 0, 0), Err(Refusal::EmptyMask));
 /// ```
 pub fn card_read(table: &[u64], card: usize, mask: u64) -> Result<u64, Refusal> {
-    let mut number = 0;
-    let refusal = card_read_call(table, card, mask, &mut number);
-    Refusal::accepted(refusal).map(|()| number)
+    card_read_answer(table, card, mask).result()
 }
 
 /// Puts `new` into the field under `mask` of a card, if the field holds `expected`; no other bit of the table changes.
 ///
 /// Refused, by the first that applies, and then nothing changes: with 5, 6 and 7 as [`card_read`] is, with 8 where
-/// `expected` or `new` has more bits than the mask has ones, with 9 where the field holds another number, which the refusal
-/// carries: a read would give it.
+/// `expected` or `new` has more bits than the mask has ones, with 9 where the field holds another number.
 ///
 /// ```
 /// use plyorchard::{card_write, Refusal};
@@ -40,7 +35,7 @@ pub fn card_read(table: &[u64], card: usize, mask: u64) -> Result<u64, Refusal> 
 /// let mut table = [0xFF00];
 /// assert_eq!(card_write(&mut table, 0, 0x0FF0, 0xF0, 0x0A), Ok(()));
 /// assert_eq!(table, [0xF0A0]);
-/// assert_eq!(card_write(&mut table, 0, 0x0FF0, 0xF0, 0x0A), Err(Refusal::Differs { found: 0x0A }));
+/// assert_eq!(card_write(&mut table, 0, 0x0FF0, 0xF0, 0x0A), Err(Refusal::Differs));
 /// assert_eq!(card_write(&mut table, 0, 0x0FF0, 0x0A, 0x100), Err(Refusal::TooWide));
 /// assert_eq!(table, [0xF0A0]);
 /// ```
@@ -51,21 +46,6 @@ pub fn card_write(
     expected: u64,
     new: u64,
 ) -> Result<(), Refusal> {
-    let mut found = 0;
-    let refusal = card_write_call(table, card, mask, expected, new, &mut found);
-    Refusal::told(refusal, found)
-}
-
-/// The C function of a write itself, for the tests: it gives the refusal's number or 0 and sets `found` on every call.
-#[doc(hidden)]
-pub fn card_write_call(
-    table: &mut [u64],
-    card: usize,
-    mask: u64,
-    expected: u64,
-    new: u64,
-    found: &mut u64,
-) -> u8 {
     extern "C" {
         fn ply_card_write(
             table: *mut u64,
@@ -74,34 +54,17 @@ pub fn card_write_call(
             mask: u64,
             expected: u64,
             new: u64,
-            found: *mut u64,
         ) -> u8;
     }
-    let (start, words) = (table.as_mut_ptr(), table.len());
+    let words = table.len();
     // SAFETY: the archive has the function with these types; pointer and count are those of a slice that is ours for the
-    // call, the number is ours and no part of it, and the function is proved to be safe on all such.
-    unsafe { ply_card_write(start, words, card, mask, expected, new, found) }
+    // call, and the function is proved to be safe on every such slice and every number.
+    Refusal::accepted(unsafe {
+        ply_card_write(table.as_mut_ptr(), words, card, mask, expected, new)
+    })
 }
 
-/// The C function of a read itself, for the tests: it gives the refusal's number or 0 and sets `number` on every call.
-#[doc(hidden)]
-pub fn card_read_call(table: &[u64], card: usize, mask: u64, number: &mut u64) -> u8 {
-    extern "C" {
-        fn ply_card_read(
-            table: *const u64,
-            words: usize,
-            card: usize,
-            mask: u64,
-            number: *mut u64,
-        ) -> u8;
-    }
-    let (start, words) = (table.as_ptr(), table.len());
-    // SAFETY: the archive has the function with these types; pointer and count are those of a slice that stays borrowed
-    // for the call, the number is ours and no part of it, and the function is proved to be safe on all such.
-    unsafe { ply_card_read(start, words, card, mask, number) }
-}
-
-/// The pair of C functions of a read, for the tests.
+/// The C functions of a read themselves, for the tests.
 #[doc(hidden)]
 pub fn card_read_answer(table: &[u64], card: usize, mask: u64) -> Answer<u64> {
     extern "C" {

@@ -39,19 +39,33 @@ pub fn ilog10<T: Log10>(v: T) -> Result<u32, Refusal> {
     T::ilog10(v).result()
 }
 
-/// How many decimal digits `v` is printed with: its decimal logarithm plus one, and 1 for 0. It is never refused.
+/// How many decimal digits `v` has: its decimal logarithm plus one.
+///
+/// Refused with 2 where `v` is 0, as the logarithm is.
 ///
 /// ```
-/// use plyorchard::digit_count;
+/// use plyorchard::{digit_count, Refusal};
 ///
-/// assert_eq!(digit_count(0), 1);
-/// assert_eq!(digit_count(9), 1);
-/// assert_eq!(digit_count(10), 2);
+/// assert_eq!(digit_count(9), Ok(1));
+/// assert_eq!(digit_count(10), Ok(2));
+/// assert_eq!(digit_count(0), Err(Refusal::NoLog));
 /// ```
-pub fn digit_count(v: u64) -> u32 {
+pub fn digit_count(v: u64) -> Result<u32, Refusal> {
+    digit_count_answer(v).result()
+}
+
+/// The C functions of the digit count themselves, for the tests.
+#[doc(hidden)]
+pub fn digit_count_answer(v: u64) -> Answer<u32> {
     extern "C" {
-        fn ply_digit_count(v: u64) -> u32;
+        fn ply_digit_count_refusal(v: u64) -> u8;
+        fn ply_digit_count_value(v: u64) -> u32;
     }
-    // SAFETY: the archive has the function with this type, and it is proved to end and to be safe on every input.
-    unsafe { ply_digit_count(v) }
+    // SAFETY: the archive has both functions with these types, and they are proved to end and to be safe on every input.
+    unsafe {
+        Answer {
+            refusal: ply_digit_count_refusal(v),
+            value: ply_digit_count_value(v),
+        }
+    }
 }

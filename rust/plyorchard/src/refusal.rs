@@ -3,10 +3,10 @@
 use std::error::Error;
 use std::fmt::{Display, Formatter, Result as Written};
 
-/// Each refusal's name, number and meaning, said once; one that carries a number also has its name and meaning.
+/// Each refusal's name, number and meaning, said once.
 macro_rules! refusals {
-    ($($name:ident $({ $carried:ident: $holds:literal })? = $number:literal, $meaning:literal;)+) => {
-        /// Why a call is refused. A refused call has the value 0, and the refusal carries nothing unless it says so.
+    ($($name:ident = $number:literal, $meaning:literal;)+) => {
+        /// Why a call is refused. A refused call has the value 0.
         ///
         /// ```
         /// use plyorchard::{rem_euclid, Refusal};
@@ -18,60 +18,34 @@ macro_rules! refusals {
         /// ```
         #[derive(Clone, Copy, Debug, PartialEq, Eq, Hash)]
         #[non_exhaustive]
+        #[repr(u8)]
         pub enum Refusal {
             $(
                 #[doc = concat!("Refusal ", $number, ": ", $meaning, ".")]
-                $name $({
-                    #[doc = concat!("The number that it carries: ", $holds, " this.")]
-                    $carried: u64,
-                })?,
+                $name = $number,
             )+
         }
 
         impl Refusal {
-            /// The refusal that has this number and carries this, if it carries anything.
+            /// The refusal that has this number.
             ///
             /// ```
             /// use plyorchard::Refusal;
             ///
-            /// assert_eq!(Refusal::from_numbers(9, 30), Some(Refusal::Differs { found: 30 }));
-            /// assert_eq!(Refusal::from_numbers(3, 30), Some(Refusal::DivisorZero));
-            /// assert_eq!(Refusal::from_numbers(0, 0), None);
+            /// assert_eq!(Refusal::from_number(9), Some(Refusal::Differs));
+            /// assert_eq!(Refusal::from_number(0), None);
             /// ```
-            pub const fn from_numbers(number: u8, carried: u64) -> Option<Refusal> {
+            pub const fn from_number(number: u8) -> Option<Refusal> {
                 match number {
-                    $($number => Some(Refusal::$name $({ $carried: carried })?),)+
+                    $($number => Some(Refusal::$name),)+
                     _ => None,
-                }
-            }
-
-            /// The refusal's number, as the C functions and the answers of records have it.
-            pub const fn number(self) -> u8 {
-                match self {
-                    $(Refusal::$name { .. } => $number,)+
-                }
-            }
-
-            /// The number that the refusal carries, 0 where it carries none.
-            pub const fn carried(self) -> u64 {
-                match self {
-                    $($(Refusal::$name { $carried } => $carried,)?)+
-                    _ => 0,
                 }
             }
 
             /// What the refusal means, in words.
             const fn meaning(self) -> &'static str {
                 match self {
-                    $(Refusal::$name { .. } => $meaning,)+
-                }
-            }
-
-            /// What the number means that the refusal carries, if it carries one.
-            const fn holds(self) -> Option<&'static str> {
-                match self {
-                    $($(Refusal::$name { $carried: _ } => Some($holds),)?)+
-                    _ => None,
+                    $(Refusal::$name => $meaning,)+
                 }
             }
         }
@@ -80,52 +54,45 @@ macro_rules! refusals {
 
 refusals! {
     NegativeRoot = 1, "root of a negative number";
-    NoLog = 2, "log of a number that is not above 0";
+    NoLog = 2, "log or digit count of a number that is not above 0";
     DivisorZero = 3, "divisor 0";
     NoFit = 4, "the exact result does not fit, or remainder of MIN by -1";
     TableTooLong = 5, "card table longer than 4,096 words";
     NoSuchCard = 6, "card index not below the table's length";
-    EmptyMask = 7, "mask of a table call, or of a journal's entry, is 0";
-    TooWide = 8, "expected, old or new number has more bits than the mask has ones";
-    Differs { found: "the field holds" } = 9, "the gathered field differs from the expected number";
-    NoRoom = 10, "a batch, or answers to records, do not fit their destination";
-    NoOperation = 11, "record: operation not listed, or a width it does not take; journal: kind of an entry not 1";
+    EmptyMask = 7, "table mask is 0";
+    TooWide = 8, "expected or new number has more bits than the mask has ones";
+    Differs = 9, "the gathered field differs from the expected number";
+    NoRoom = 10, "batch does not fit its destination";
+    NoOperation = 11, "record: operation not listed, or a width it does not take";
     BadOperand = 12, "record: operand has bits above its width, or an unused operand is not 0";
-    WrongLength = 13, "record or answer of wrong length, a journal's tail of 1 to 25 bytes, or a stream's count above 16";
-    JournalFull = 17, "journal: no 26 bytes left for an entry, or a place past the end";
+    WrongLength = 13, "record or answer of wrong length";
 }
 
 impl Refusal {
-    /// Reads what a C function returned that leaves no number with its refusal: 0 is accepted.
+    /// The refusal's number, as the C functions and the answers of records have it.
+    pub const fn number(self) -> u8 {
+        self as u8
+    }
+
+    /// Reads what a C function returned: 0 is accepted.
     ///
     /// # Panics
     ///
     /// On a number that no refusal has; the C functions are proved to return none.
     pub(crate) fn accepted(returned: u8) -> Result<(), Refusal> {
-        Refusal::told(returned, 0)
-    }
-
-    /// Reads what a C function returned, and the number that it left with its refusal.
-    ///
-    /// # Panics
-    ///
-    /// As `accepted` does.
-    pub(crate) fn told(returned: u8, carried: u64) -> Result<(), Refusal> {
         match returned {
             0 => Ok(()),
-            number => Err(Refusal::from_numbers(number, carried)
-                .expect("a number that is proved to be a refusal's")),
+            number => {
+                Err(Refusal::from_number(number)
+                    .expect("a number that is proved to be a refusal's"))
+            }
         }
     }
 }
 
 impl Display for Refusal {
     fn fmt(&self, out: &mut Formatter<'_>) -> Written {
-        write!(out, "refusal {}: {}", self.number(), self.meaning())?;
-        match self.holds() {
-            Some(holds) => write!(out, "; {holds} {}", self.carried()),
-            None => Ok(()),
-        }
+        write!(out, "refusal {}: {}", self.number(), self.meaning())
     }
 }
 
@@ -136,27 +103,13 @@ mod tests {
     use super::Refusal;
 
     #[test]
-    fn numbers_are_1_to_13_and_17_and_go_back_and_9_alone_carries() {
+    fn numbers_go_from_1_to_13_and_back() {
         for number in 0..=u8::MAX {
-            let listed = matches!(number, 1..=13 | 17);
-            for carried in [0, 30, u64::MAX] {
-                let told = Refusal::from_numbers(number, carried);
-                let carries = if number == 9 { carried } else { 0 };
-                assert_eq!(
-                    told.map(|refusal| (refusal.number(), refusal.carried())),
-                    listed.then_some((number, carries))
-                );
-            }
+            let listed = (1..=13).contains(&number);
+            assert_eq!(
+                Refusal::from_number(number).map(Refusal::number),
+                listed.then_some(number)
+            );
         }
-    }
-
-    #[test]
-    fn what_is_carried_is_said() {
-        let said = |refusal: Refusal| refusal.to_string();
-        assert_eq!(
-            said(Refusal::Differs { found: 30 }),
-            "refusal 9: the gathered field differs from the expected number; the field holds 30"
-        );
-        assert_eq!(said(Refusal::DivisorZero), "refusal 3: divisor 0");
     }
 }

@@ -6,10 +6,10 @@ use Rattle.record_program.proofs.main.Statement.{statement}
 use Rattle.record_program.proofs.main.Tie as tie
 
 abbrev invariant-loop : tie.invariant-loop
-invariant-loop input₀ output₀ state₀ turns₀ input output state turns = (69632 ≡ length input) × (36864 ≡ length output)
+invariant-loop input₀ output₀ turns₀ input output turns = (69632 ≡ length input) × (36864 ≡ length output)
 
 abbrev decreases-loop : tie.decreases-loop
-decreases-loop input₀ output₀ state₀ turns₀ input output state turns = turns
+decreases-loop input₀ output₀ turns₀ input output turns = turns
 
 pub main_spec : {M : Type 1} → statement M
 main_spec =
@@ -17,7 +17,6 @@ main_spec =
     (tie.spec
     invariant-loop
     decreases-loop
-    (λ c κs. search rules)
     (λ c. search rules)
     (λ c. search rules)
     (λ c. search rules)

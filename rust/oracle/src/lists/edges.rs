@@ -6,7 +6,7 @@
 //!   the 16 words of the destination's buffer afterwards;
 //! - a read: the value, how many words the table has, its seed, card, mask;
 //! - a guarded write: the card's word afterwards (0 where there is no such card), how many words the table has, its seed,
-//!   card, mask, expected, new, and what the refusal carries.
+//!   card, mask, expected, new.
 //!
 //! The kinds are numbered in the order in which the program writes a line for each.
 
@@ -23,9 +23,6 @@ rows, remainder: 2 right, 0 wrong
 rows, next multiple: 2 right, 0 wrong
 rows, guarded write: 3 right, 0 wrong
 ";
-
-/// The refusal that carries a number, which is its entry's last word.
-const CARRIES: u8 = 9;
 
 /// The refusal or 0, and the words: a call's answer, and its arguments.
 struct Entry {
@@ -62,9 +59,8 @@ impl Kind {
         format!("{}: {right} right, {wrong} wrong\n", self.name)
     }
 
-    /// Damages answers, and says how many: the first refusal, the last number or word that an accepted call gives, and
-    /// the last number that a refusal carries.
-    fn damage(&mut self) -> usize {
+    /// Damages two answers: the first refusal, and the last number or word that an accepted call gives.
+    fn damage(&mut self) {
         self.entries[0].refusal ^= 1;
         let accepted = self.entries.iter_mut().rfind(|entry| entry.refusal == 0);
         let words = &mut accepted.expect("an accepted call").words;
@@ -74,12 +70,6 @@ impl Kind {
             0
         };
         words[given] ^= 1;
-        let carries = self.entries.iter_mut().rfind(|x| x.refusal == CARRIES);
-        let carried = carries.and_then(|entry| entry.words.last_mut());
-        carried.map_or(2, |number| {
-            *number ^= 1;
-            3
-        })
     }
 }
 
@@ -90,16 +80,12 @@ fn kinds() -> Vec<Kind> {
     kinds
 }
 
-/// A list of all entries, and a line for each kind, of whose answers so many are wrong.
-fn list(kinds: &[Kind], wrong: &[usize]) -> List {
+/// A list of all entries, and a line for each kind, of which so many answers are wrong.
+fn list(kinds: &[Kind], wrong: usize) -> List {
     let stdin = (0..)
         .zip(kinds)
         .flat_map(|(number, kind)| kind.bytes(number));
-    let lines = kinds
-        .iter()
-        .zip(wrong)
-        .map(|(kind, &wrong)| kind.line(wrong));
-    let lines: String = lines.collect();
+    let lines: String = kinds.iter().map(|kind| kind.line(wrong)).collect();
     List {
         stdin: stdin.collect(),
         stdout: format!("{ROWS}{lines}left over: 0 bytes\n").into(),
@@ -108,15 +94,14 @@ fn list(kinds: &[Kind], wrong: &[usize]) -> List {
 
 /// The list that the program replays.
 pub fn edges() -> List {
-    let kinds = kinds();
-    list(&kinds, &vec![0; kinds.len()])
+    list(&kinds(), 0)
 }
 
-/// The same list with answers of each kind damaged.
+/// The same list with two answers of each kind damaged.
 pub fn damaged_edges() -> List {
     let mut kinds = kinds();
-    let wrong: Vec<usize> = kinds.iter_mut().map(Kind::damage).collect();
-    list(&kinds, &wrong)
+    kinds.iter_mut().for_each(Kind::damage);
+    list(&kinds, 2)
 }
 
 #[cfg(test)]
@@ -137,6 +122,7 @@ mod tests {
         for kind in kinds {
             let own: &[u8] = match kind.name.split(' ').next() {
                 Some("strict_add" | "strict_sub" | "strict_neg" | "strict_abs") => &[0, 4],
+                Some("digit_count") => &[0, 2],
                 Some("gather_batch" | "scatter_batch") => &[0, 10],
                 Some("card_read") => &[0, 5, 6, 7],
                 Some("card_write") => &[0, 5, 6, 7, 8, 9],

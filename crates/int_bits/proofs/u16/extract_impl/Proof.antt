@@ -1,5 +1,6 @@
 -- `u16::extract_impl` meets its contract: before each turn x is what the stages so far make of it.
-use Rattle.std.proofs.Common.{◌-◌, arith}
+use Prim.Native.Nat.{◌-◌}
+use native.Mathlib.Omega.{arith}
 use Rattle.int_bits.proofs.Width.{w16, shift_lt}
 use Rattle.int_bits.proofs.Extract.{Extracting, extracting_start, extracting_next, extracting_end}
 use Rattle.int_bits.proofs.u16.extract_impl.Statement.{statement}

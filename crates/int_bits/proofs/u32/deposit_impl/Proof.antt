@@ -1,5 +1,5 @@
 -- `u32::deposit_impl` meets its contract: before each turn the stages that are left make the result of x.
-use Rattle.std.proofs.Common.{arith}
+use native.Mathlib.Omega.{arith}
 use Rattle.int_bits.proofs.Width.{w32, before_lt}
 use Rattle.int_bits.proofs.Deposit.{Depositing, depositing_start, depositing_next, depositing_end}
 use Rattle.int_bits.proofs.u32.deposit_impl.Statement.{statement}

@@ -1,5 +1,7 @@
 -- `u8::prepare` meets its contract: each turn of the inner loop doubles the reach of the parity, and each stage adds its mask.
-use Rattle.std.proofs.Common.{◌-◌, refl, arith}
+use mathlib.Core.Path.{refl}
+use Prim.Native.Nat.{◌-◌}
+use native.Mathlib.Omega.{arith}
 use Rattle.int_bits.proofs.Width.{w8, shift_lt}
 use Rattle.int_bits.proofs.Prepare.{Doubling, doubling_start, doubling_next, doubling_less, Prepared, prepared_start, prepared_next, prepared_end}
 use Rattle.int_bits.proofs.u8.prepare.Statement.{statement}

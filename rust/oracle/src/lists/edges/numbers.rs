@@ -10,7 +10,8 @@ use std::iter::repeat_with;
 const TWO: usize = 128;
 const ONE: usize = 64;
 
-/// The refusal of numbers, as the rules number it.
+/// The refusals of numbers, as the rules number them.
+const NO_LOG: u8 = 2;
 const NO_FIT: u8 = 4;
 
 /// The signed forms, those of two operands first.
@@ -96,7 +97,7 @@ fn digit_count() -> Kind {
     let mut random = Random::new(0);
     let randoms = repeat_with(|| random.word(64));
     let words = powers_of_ten(64).chain(extremes(64)).chain(randoms);
-    let count = |v, _| Ok(ilog10_u64(v).map_or(1, |log| u64::from(log) + 1));
+    let count = |v, _| ilog10_u64(v).map(|log| u64::from(log) + 1).ok_or(NO_LOG);
     entries(
         "digit_count".into(),
         count,

@@ -2,8 +2,7 @@
 
 use super::{entry, Entry, Kind};
 use crate::batch::placed;
-use crate::table::{self, Refused};
-use crate::{deposit_u64, extract_u64, masks, Random};
+use crate::{deposit_u64, extract_u64, masks, table, Random};
 use std::iter::{repeat_with, successors};
 
 /// What lies between two neighbouring words of a slice: an odd number of many ones and zeros.
@@ -141,11 +140,9 @@ fn writes() -> Kind {
             let mut table = words(seed, length);
             let answer = table::write(&mut table, card, mask, expected, new);
             let after = table.get(card).copied().unwrap_or(0);
-            let (refusal, carried) = Refused::told(answer);
-            let field = [after, length as u64, seed, card as u64, mask];
             entries.push(Entry {
-                refusal,
-                words: [&field[..], &[expected, new, carried]].concat(),
+                refusal: answer.err().unwrap_or(0),
+                words: vec![after, length as u64, seed, card as u64, mask, expected, new],
             });
         }
     }

@@ -1,3 +1,0 @@
-pub mod Audit
-pub mod Examples
-pub mod Told
