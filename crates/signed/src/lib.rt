@@ -1,1 +1,2 @@
 // No code: what the signed forms give, on whole numbers, and the laws over the width that their proofs cite.
+#![tactic(auto)]
