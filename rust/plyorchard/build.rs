@@ -1,16 +1,16 @@
-//! Links the proved functions: `target/staticlib/libexports.a` of this repository.
-//! Where the archive is missing, or older than a Rattle source, `rt staticlib exports` writes it first.
+//! Links the proved functions: `crates/exports/out/libexports.a` of this repository.
+//! Where the archive is missing, or older than a Rattle source, `rt lib exports` writes it first.
 
-use std::path::Path;
+use std::path::{Path, PathBuf};
 use std::process::Command;
 use std::time::SystemTime;
 use std::{env, fs, io};
 
 fn main() {
     let root = Path::new(env!("CARGO_MANIFEST_DIR")).join("../..");
-    let folder = root.join("target/staticlib");
+    let folder = root.join("crates/exports/out");
     let archive = folder.join("libexports.a");
-    let sources = [root.join("crates.txt"), root.join("crates")];
+    let sources = sources(&root);
 
     for path in sources.iter().chain([&archive]) {
         println!("cargo::rerun-if-changed={}", path.display());
@@ -27,6 +27,16 @@ fn main() {
     }
     println!("cargo::rustc-link-search=native={}", folder.display());
     println!("cargo::rustc-link-lib=static=exports");
+}
+
+/// What the archive is made from: `crates.txt`, and each crate without its `out/`.
+fn sources(root: &Path) -> Vec<PathBuf> {
+    let crates = fs::read_dir(root.join("crates"));
+    let folders = crates.into_iter().flatten().flatten();
+    let parts =
+        folders.flat_map(|folder| ["src", "specs", "proofs"].map(|part| folder.path().join(part)));
+    let parts = parts.filter(|part| part.is_dir());
+    parts.chain([root.join("crates.txt")]).collect()
 }
 
 /// When the newest Rattle file at or below this path was written.
@@ -50,7 +60,7 @@ fn newest(path: &Path) -> io::Result<SystemTime> {
 /// Proves the exported functions and writes the archive.
 fn make(root: &Path) -> Result<(), String> {
     let mut rt = Command::new("rt");
-    let said = rt.args(["staticlib", "exports"]).current_dir(root).output();
+    let said = rt.args(["lib", "exports"]).current_dir(root).output();
     let said =
         said.map_err(|why| format!("cannot run rt, the command of the Rattle toolchain: {why}"))?;
     if said.status.success() {
@@ -58,7 +68,7 @@ fn make(root: &Path) -> Result<(), String> {
     }
     let lines = [said.stdout, said.stderr].concat();
     Err(format!(
-        "`rt staticlib exports` failed:\n{}",
+        "`rt lib exports` failed:\n{}",
         String::from_utf8_lossy(&lines)
     ))
 }

@@ -1,4 +1,4 @@
-//! The proved programs, as `rt check NAME` makes them.
+//! The proved programs, as `tools/program NAME` makes them.
 
 use std::env;
 use std::path::Path;
@@ -10,9 +10,9 @@ use std::process::Command;
 ///
 /// Where the program is not made yet.
 pub fn program(name: &str) -> Command {
-    let folder = Path::new(env!("CARGO_MANIFEST_DIR")).join("../../target/bin");
-    let path = folder.join(name);
-    assert!(path.exists(), "`rt check {name}` makes the program");
+    let crates = Path::new(env!("CARGO_MANIFEST_DIR")).join("../../crates");
+    let path = crates.join(name).join("out").join(name);
+    assert!(path.exists(), "`tools/program {name}` makes the program");
     match env::var_os("CARGO_TARGET_X86_64_UNKNOWN_LINUX_GNU_RUNNER") {
         Some(runner) => {
             let mut command = Command::new(runner);
