@@ -13,6 +13,8 @@
 //     ........ABCDEFGH
 //
 // Scattering, the stages are reversed.
+#![tactic(auto)]
+
 pub mod u16;
 pub mod u32;
 pub mod u64;
