@@ -1,5 +1,7 @@
 // The guarded card table: a lent slice of words, one for each card, whose fields are read and written under masks.
 // A call first decides whether it is refused, and then acts.
+#![tactic(auto)]
+
 ghost use Rattle.std.specs.Prelude.{◌≡◌, ◌<◌};
 ghost use Rattle.int_bits.specs.Stored.{stored};
 ghost use Rattle.cards.specs.Table.{cards, seen, too_wide, updated, ChecksCard, ChecksGuard, ChecksWrite, Reads, Writes};

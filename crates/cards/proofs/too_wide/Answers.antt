@@ -1,0 +1,25 @@
+-- A number has a bit at or above k exactly where it is 2^k or more; no number of 64 bits has one above 63.
+use borrow.Author.Tests.{leb-true, leb-false, lt-leb, eq-eqb, ne_eqb}
+use Rattle.std.proofs.Common.{◌≡◌, refl, sym, ap, Bool, true, false, ℕ, ◌^◌, ◌/◌, ◌*◌, ◌≤◌, arith}
+use mathlib.Core.Bool.{not}
+use native.Mathlib.Nat.{le-div_iff_mul-le, div-eq_of_lt}
+use lib.Count.{ones}
+use lib.Dec.{leb, eqb}
+use lib.Pow.{pow_mono, pow_pos}
+use Rattle.cards.proofs.too_wide.Goals as goal
+
+high_bits : (x k : ℕ) → not (eqb (x / 2 ^ k) 0) ≡ leb (2 ^ k) x
+high_bits x k = go (leb (2 ^ k) x) refl
+  where
+    go : (b : Bool) → leb (2 ^ k) x ≡ b → not (eqb (x / 2 ^ k) 0) ≡ b
+    go true e =
+        let h : 1 * 2 ^ k ≤ x = omega (arith, leb-true (2 ^ k) x e) in
+        let l : 1 ≤ x / 2 ^ k = (le-div_iff_mul-le (pow_pos k)).1 h in
+        ap not (ne_eqb (x / 2 ^ k) 0 (λ z. omega arith))
+    go false e = ap not (eq-eqb (x / 2 ^ k) 0 (div-eq_of_lt (leb-false _ _ e)))
+
+pub returns-then-ones-ge64 : goal.returns-then-ones-ge64
+returns-then-ones-ge64 c = sym (lt-leb (2 ^ ones c.args.mask) c.args.number (omega (arith, pow_mono c.if-ones-ge64.true)))
+
+pub returns : goal.returns
+returns c = high_bits c.args.number (ones c.args.mask)
