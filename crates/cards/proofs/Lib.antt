@@ -1,3 +1,4 @@
+pub mod Wide
 pub mod Accepts
 pub mod Changes
 pub mod Once

@@ -9,6 +9,7 @@ ghost use Rattle.cards.specs.Table.{cards, seen, too_wide, updated, ChecksCard, 
 use answers::{Done, Refusal, U64};
 
 // Whether a number has a bit at or above the count of the mask's ones.
+#[tactic(auto, using(crate::proofs::Wide::by_high_bits, crate::proofs::Wide::never_wide))]
 pub fn too_wide(number: u64, mask: u64) -> bool
     ensures { result ≡ too_wide number mask }
 {
@@ -28,6 +29,7 @@ fn seen(table: &[u64], card: usize, mask: u64) -> u64
 }
 
 // Whether the table, the card or the mask refuses a call.
+#[tactic(auto, unfolding(crate::specs::Table::card_rows))]
 pub fn card_check(table: &[u64], card: usize, mask: u64) -> Done
     ensures { ChecksCard table.now card mask result }
 {
@@ -44,6 +46,7 @@ pub fn card_check(table: &[u64], card: usize, mask: u64) -> Done
 }
 
 // Whether the numbers, or the field of a card that is in the table, refuse a guarded write.
+#[tactic(auto, unfolding(crate::specs::Table::guard_rows))]
 fn guard_check(table: &[u64], card: usize, mask: u64, expected: u64, new: u64) -> Done
     requires { card < cards table.now }
     ensures { ChecksGuard table.now card mask expected new result }
@@ -61,6 +64,7 @@ fn guard_check(table: &[u64], card: usize, mask: u64, expected: u64, new: u64) -
 }
 
 // Whether a guarded write is refused.
+#[tactic(auto, using(crate::proofs::Accepts::readable, crate::proofs::Accepts::check_refused, crate::proofs::Accepts::check_passed))]
 pub fn write_check(table: &[u64], card: usize, mask: u64, expected: u64, new: u64) -> Done
     ensures { ChecksWrite table.now card mask expected new result }
 {
@@ -79,6 +83,7 @@ fn with_field(word: u64, mask: u64, new: u64) -> u64
 }
 
 // The new number goes into a card's field, whatever is there; where there is no such card, nothing changes.
+#[tactic(auto, unfolding(crate::specs::Table::updated))]
 fn store(table: &mut [u64], card: usize, mask: u64, new: u64)
     ensures { table.new ≡ updated table.old card mask new }
 {
@@ -88,6 +93,7 @@ fn store(table: &mut [u64], card: usize, mask: u64, new: u64)
 }
 
 // The number in a card's field, or the refusal.
+#[tactic(auto, using(crate::proofs::Accepts::readable, crate::proofs::Accepts::read_refused, crate::proofs::Accepts::read_accepted))]
 pub fn read(table: &[u64], card: usize, mask: u64) -> U64
     ensures { Reads table.now card mask result }
 {

@@ -1,12 +1,12 @@
 -- A number has a bit at or above k exactly where it is 2^k or more; no number of 64 bits has one above 63.
 use borrow.Author.Tests.{leb-true, leb-false, lt-leb, eq-eqb, ne_eqb}
-use Rattle.std.proofs.Common.{◌≡◌, refl, sym, ap, Bool, true, false, ℕ, ◌^◌, ◌/◌, ◌*◌, ◌≤◌, arith}
+use Rattle.std.proofs.Common.{◌≡◌, refl, sym, ap, Bool, true, false, ℕ, ◌^◌, ◌/◌, ◌*◌, ◌≤◌, ◌<◌, arith}
 use mathlib.Core.Bool.{not}
 use native.Mathlib.Nat.{le-div_iff_mul-le, div-eq_of_lt}
 use lib.Count.{ones}
 use lib.Dec.{leb, eqb}
 use lib.Pow.{pow_mono, pow_pos}
-use Rattle.cards.proofs.too_wide.Goals as goal
+use Rattle.cards.specs.Table.{too_wide}
 
 high_bits : (x k : ℕ) → not (eqb (x / 2 ^ k) 0) ≡ leb (2 ^ k) x
 high_bits x k = go (leb (2 ^ k) x) refl
@@ -18,8 +18,8 @@ high_bits x k = go (leb (2 ^ k) x) refl
         ap not (ne_eqb (x / 2 ^ k) 0 (λ z. omega arith))
     go false e = ap not (eq-eqb (x / 2 ^ k) 0 (div-eq_of_lt (leb-false _ _ e)))
 
-pub returns-then-ones-ge64 : goal.returns-then-ones-ge64
-returns-then-ones-ge64 c = sym (lt-leb (2 ^ ones c.args.mask) c.args.number (omega (arith, pow_mono c.if-ones-ge64.true)))
+pub by_high_bits : (number mask : ℕ) → not (eqb (number / 2 ^ ones mask) 0) ≡ too_wide number mask
+by_high_bits number mask = high_bits number (ones mask)
 
-pub returns : goal.returns
-returns c = high_bits c.args.number (ones c.args.mask)
+pub never_wide : (number mask : ℕ) → number < 2 ^ 64 → 64 ≤ ones mask → false ≡ too_wide number mask
+never_wide number mask fits all = sym (lt-leb (2 ^ ones mask) number (omega (arith, pow_mono all)))
