@@ -1,5 +1,6 @@
 // What calls answer: one list of refusals for every crate, and an enum for each kind of value, with the two numbers that a caller in C sees.
 #![tactic(auto)]
+
 ghost use Rattle.std.specs.Prelude.{◌≡◌};
 ghost use Rattle.answers.specs.Answers.{number_of, means_done, means_u32, means_u64, means_i8, means_i16, means_i32, means_i64};
 ghost use Rattle.answers.specs.Reply.{refusal_of, natural, whole};
