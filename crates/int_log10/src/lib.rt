@@ -1,5 +1,7 @@
 // Integer decimal logarithms, after Rust's core (library/core/src/num/imp/int_log10.rs), and the digit count.
 // The log of v > 0 is the k with 10^k <= v < 10^(k+1); a number that is not above 0 has none and is refused.
+#![tactic(auto)]
+
 ghost use Rattle.std.specs.Prelude.{◌≡◌, ◌<◌, pos};
 ghost use Rattle.answers.specs.Answers.{means_u32};
 ghost use Rattle.int_log10.specs.Log.{log, log_of, digit_count};
@@ -175,6 +177,7 @@ pub fn i64(val: i64) -> U32
 }
 
 // How many decimal digits v has: its log plus one.
+#[tactic(auto, unfolding(crate::specs::Log::digit_count))]
 pub fn digit_count(v: u64) -> U32
     ensures { means_u32 result ≡ digit_count v }
 {

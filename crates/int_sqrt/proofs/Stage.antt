@@ -1,7 +1,7 @@
 -- The stages' code at words of four digits of k bits, over k: each shift and mask is the product, quotient or remainder of
 -- `Karatsuba.antt` at the digit 2 ^ k. So the root that a stage first computes is close, every sum and product on the way fits,
 -- and the two wraps of a borrow give the exact remainder.
-use Rattle.std.proofs.Common.{◌≡◌, ℕ, zero, suc, ◌+◌, ◌-◌, ◌*◌, ◌/◌, ◌%◌, ◌^◌, ◌<◌, ◌≤◌, true, false, ltb, ap, le_refl, lt_of_lt_of_le, mul-le-mul_right, mod-lt, mod-eq_of_lt, mul_comm, mul-le-mul, pow-suc, le-div_iff_mul-le, le-add_left, arith, pow_pos, pow_mono, pow-add, shl_exact, shr_lt, ltb-false, ltb-true}
+use Rattle.std.proofs.Common.{◌≡◌, ℕ, zero, suc, ◌+◌, ◌-◌, ◌*◌, ◌/◌, ◌%◌, ◌^◌, ◌<◌, ◌≤◌, ap, le_refl, lt_of_lt_of_le, mul-le-mul_right, mod-lt, mod-eq_of_lt, mul_comm, mul-le-mul, pow-suc, le-div_iff_mul-le, le-add_left, arith, pow_pos, pow_mono, pow-add, shl_exact, shr_lt}
 use lib.Pow.{split}
 use lib.Bits.{bit_and, bit_or, and_mask, mask_lt, or_shifted}
 use Rattle.laws.proofs.Wrap.{unwrapped, repaired}
@@ -111,15 +111,11 @@ stage j {n} {s} {r} fits pre = stage_of j (suc j) n s r (pow-suc 2 j) fits pre.0
 module _ {k n s r : ℕ} (g : Stage k n s r) where
   -- a middle stage: t is the wrapped difference, and p the wrapped repair
   module _ {t : ℕ} (ht : t < 2 ^ (k + k + (k + k))) (e : (t + quotient k n s r * quotient k n s r) % 2 ^ (k + k + (k + k)) ≡ rest k n s r) where
-    pub middle_kept : ltb (rest k n s r) (quotient k n s r * quotient k n s r) ≡ false → Remainder n (guess k n s r) t
-    middle_kept test =
-        let h = ltb-false (rest k n s r) (quotient k n s r * quotient k n s r) test in
-        rw (unwrapped (omega (arith, g)) ht e h) (kept g.near h)
+    pub middle_kept : quotient k n s r * quotient k n s r ≤ rest k n s r → Remainder n (guess k n s r) t
+    middle_kept h = rw (unwrapped (omega (arith, g)) ht e h) (kept g.near h)
 
-    pub middle_fixed : {p : ℕ} → ltb (rest k n s r) (quotient k n s r * quotient k n s r) ≡ true → p ≡ (t + (2 * guess k n s r - 1)) % 2 ^ (k + k + (k + k)) → Remainder n (guess k n s r - 1) p
-    middle_fixed test f =
-        let h = ltb-true (rest k n s r) (quotient k n s r * quotient k n s r) test in
-        fixed g.near h (repaired (omega (arith, g)) ht e (omega (arith, g)) h (omega (arith, g)) f)
+    pub middle_fixed : {p : ℕ} → rest k n s r < quotient k n s r * quotient k n s r → p ≡ (t + (2 * guess k n s r - 1)) % 2 ^ (k + k + (k + k)) → Remainder n (guess k n s r - 1) p
+    middle_fixed h f = fixed g.near h (repaired (omega (arith, g)) ht e (omega (arith, g)) h (omega (arith, g)) f)
 
   -- the last stage: the only guess whose square does not fit is 2 ^ (2 * k), and that is too large
   pub last_top : guess k n s r ≡ 2 ^ (k + k) → Root n (guess k n s r - 1)
@@ -128,8 +124,8 @@ module _ {k n s r : ℕ} (g : Stage k n s r) where
   pub last_fits : (guess k n s r ≡ 2 ^ (k + k) → ⊥) → guess k n s r * guess k n s r < 2 ^ (k + k + (k + k))
   last_fits f = let h : guess k n s r + 1 ≤ 2 ^ (k + k) = omega (arith, g.guess_le) in omega (arith, pow-add 2 (k + k) (k + k), mul-le-mul h h)
 
-  pub last_fixed : ltb n (guess k n s r * guess k n s r) ≡ true → Root n (guess k n s r - 1)
-  last_fixed test = root_fixed g.near (ltb-true n (guess k n s r * guess k n s r) test)
+  pub last_fixed : n < guess k n s r * guess k n s r → Root n (guess k n s r - 1)
+  last_fixed h = root_fixed g.near h
 
-  pub last_kept : ltb n (guess k n s r * guess k n s r) ≡ false → Root n (guess k n s r)
-  last_kept test = root_kept g.near (ltb-false n (guess k n s r * guess k n s r) test)
+  pub last_kept : guess k n s r * guess k n s r ≤ n → Root n (guess k n s r)
+  last_kept h = root_kept g.near h

@@ -1,5 +1,7 @@
 // The integer square root by Zimmermann's Karatsuba method, after Rust's core (library/core/src/num/imp/int_sqrt.rs): the root of the top
 // byte from a table, then of twice as many bits at each stage.
+#![tactic(auto)]
+
 mod at_u16;
 mod at_u32;
 mod at_u64;
