@@ -1,4 +1,6 @@
 // Numbers as bytes, the most significant first: a lent part of a slice is read as one number, or filled with one.
+#![tactic(auto)]
+
 ghost use Rattle.std.specs.Prelude.{◌≡◌, ◌%◌, ◌^◌, length};
 ghost use Rattle.fields.specs.Fields.{number, bytes};
 
