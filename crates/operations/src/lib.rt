@@ -1,4 +1,6 @@
 // What a record's fields are answered: the operation at its width, unless refused with 11 or 12.
+#![tactic(auto)]
+
 mod widths;
 
 ghost use Rattle.std.specs.Prelude.{◌≡◌, ◌+◌, ◌<◌};
@@ -45,6 +47,7 @@ fn top(width: u8) -> u64
     TOP[width as usize]
 }
 
+#[tactic(auto, unfolding(crate::specs::Operations::width_of))]
 fn operate(op: u8, width: u8, a: u64, b: u64) -> U64
     requires { Ready op width a b }
     ensures { means_u64 result ≡ operation op width a b }
@@ -61,6 +64,7 @@ fn operate(op: u8, width: u8, a: u64, b: u64) -> U64
     }
 }
 
+#[tactic(auto, using(crate::proofs::Arms::code_small, crate::proofs::Rows::answered_11, crate::proofs::Rows::answered_a, crate::proofs::Rows::answered_b, crate::proofs::Rows::answered_unused, crate::proofs::Rows::answered_zero, crate::proofs::Rows::answered_used))]
 pub fn answer(op: u8, width: u8, a: u64, b: u64) -> U64
     ensures { means_u64 result ≡ answer_of op width a b }
 {
