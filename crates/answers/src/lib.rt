@@ -6,7 +6,7 @@ ghost use Rattle.answers.specs.Answers.{number_of, means_done, means_u32, means_
 ghost use Rattle.answers.specs.Reply.{refusal_of, natural, whole};
 
 // Why a call is refused, in the order of the numbers 1 to 13.
-#[derive(Drop)]
+#[derive(Clone, Copy)]
 pub enum Refusal {
     NegativeRoot,
     NoLog,
@@ -47,7 +47,7 @@ impl Refusal {
 }
 
 // What a call that gives no number answers.
-#[derive(Drop)]
+#[derive(Clone, Copy)]
 pub enum Done {
     Accepted,
     Refused(Refusal),
@@ -66,7 +66,7 @@ impl Done {
 }
 
 // A number or a refusal, one enum for each type of number. `refusal` is the refusal's number or 0, `value` the number or 0.
-#[derive(Drop)]
+#[derive(Clone, Copy)]
 pub enum U32 {
     Number(u32),
     Refused(Refusal),
@@ -92,7 +92,7 @@ impl U32 {
     }
 }
 
-#[derive(Drop)]
+#[derive(Clone, Copy)]
 pub enum U64 {
     Number(u64),
     Refused(Refusal),
@@ -118,7 +118,7 @@ impl U64 {
     }
 }
 
-#[derive(Drop)]
+#[derive(Clone, Copy)]
 pub enum I8 {
     Number(i8),
     Refused(Refusal),
@@ -144,7 +144,7 @@ impl I8 {
     }
 }
 
-#[derive(Drop)]
+#[derive(Clone, Copy)]
 pub enum I16 {
     Number(i16),
     Refused(Refusal),
@@ -170,7 +170,7 @@ impl I16 {
     }
 }
 
-#[derive(Drop)]
+#[derive(Clone, Copy)]
 pub enum I32 {
     Number(i32),
     Refused(Refusal),
@@ -196,7 +196,7 @@ impl I32 {
     }
 }
 
-#[derive(Drop)]
+#[derive(Clone, Copy)]
 pub enum I64 {
     Number(i64),
     Refused(Refusal),

@@ -1,4 +1,6 @@
 // Records of 17 bytes and their answers of 9: one, and many.
+#![tactic(auto)]
+
 ghost use Rattle.std.specs.Prelude.{◌≡◌, min, length};
 ghost use Rattle.answers.specs.Reply.{mapped};
 ghost use Rattle.answers.specs.Answers.{means_done, means_u64};
