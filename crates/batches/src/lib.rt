@@ -1,4 +1,6 @@
 // Batches of gathers and scatters at 64 bits: the words of a source, under one mask, into a destination from a place on.
+#![tactic(auto)]
+
 ghost use Rattle.std.specs.Prelude.{◌≡◌, ◌++◌, map, ◌≤◌, length, drop};
 ghost use Rattle.int_bits.specs.Gather.{gather, scatter};
 ghost use Rattle.int_bits.specs.Stages.{stage_masks};
@@ -7,6 +9,7 @@ ghost use Rattle.batches.specs.Batch.{moved, ChecksRoom, Batches};
 use answers::{Done, Refusal};
 
 // Whether a destination of a size has room for so many words from a place on.
+#[tactic(auto, unfolding(crate::specs::Batch::room_reply))]
 pub fn room_check(count: usize, size: usize, place: usize) -> Done
     ensures { ChecksRoom count size place result }
 {
@@ -20,7 +23,7 @@ pub fn room_check(count: usize, size: usize, place: usize) -> Done
 }
 
 // Which way a batch moves bits: together from the ones of the mask, or apart to them.
-#[derive(Drop)]
+#[derive(Clone, Copy)]
 enum Direction {
     Gather,
     Scatter,

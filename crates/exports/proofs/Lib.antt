@@ -1,2 +1,2 @@
--- The laws that the exported functions cite.
+-- Laws of the exported functions.
 pub mod Pair

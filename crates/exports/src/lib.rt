@@ -1,5 +1,7 @@
 // The kernels as C functions: one module for each kernel. A function that can be refused has two forms: `_refusal` gives the refusal's number or 0,
 // `_value` the number or 0.
+#![tactic(auto)]
+
 pub mod batch;
 pub mod bits;
 pub mod card_table;
