@@ -1,5 +1,7 @@
 // Runs the calls at the edges of the rules, and those of a list of right answers on standard input, and writes for each kind of call how many
 // of its answers are right and how many are wrong.
+#![tactic(auto)]
+
 mod at_i16;
 mod at_i32;
 mod at_i64;
@@ -8,17 +10,39 @@ mod batch;
 mod entry;
 mod names;
 mod numbers;
+mod output;
 mod replay;
 mod rows;
 mod slices;
 mod table;
 mod tally;
 
-use libc::STDIN_FILENO;
+ghost use Rattle.std.specs.Prelude.{◌≤◌, length, IfOk};
 
-fn main() {
-    rows::write();
+use output::Output;
+use std::io;
+use std::io::Read;
+
+// Reads until the buffer is full or the input ends, and says how many bytes it read.
+fn read_full(reader: &mut impl Read, buffer: &mut [u8]) -> io::Result<usize>
+    ensures { IfOk result (λ n. n ≤ length buffer.new) }
+{
+    let mut n = 0;
+    while n < buffer.len() {
+        let more = reader.read(&mut buffer[n..])?;
+        if more == 0 {
+            break;
+        }
+        n += more;
+    }
+    Ok(n)
+}
+
+fn main(rt: HostRuntime) -> io::Result<()> {
+    let mut output = Output::new(rt.stdout());
+    rows::write(&mut output);
     let mut list = [0u8; 262_144];
-    let n = io::read_full(STDIN_FILENO, &mut list);
-    replay::write(&list[..n]);
+    let n = read_full(&mut rt.stdin(), &mut list)?;
+    replay::write(&mut output, &list[..n]);
+    output.end()
 }

@@ -1,9 +1,9 @@
 // The list of right answers, replayed: the entries of each kind stand together, in the order of the kinds.
 ghost use Rattle.std.specs.Prelude.{◌+◌, ◌≤◌, length};
 
+use crate::output::Output;
 use crate::tally::Tally;
 use crate::{batch, entry, names, numbers, table};
-use libc::STDOUT_FILENO;
 
 // Whether a call of a kind gives the refusal, and the answer among the words.
 fn is_right(kind: u8, refusal: u8, words: &[u8]) -> bool {
@@ -34,7 +34,7 @@ fn size_at(list: &[u8], at: usize, kind: u8) -> usize
 }
 
 // Replays the entries of a kind from a place on, writes the kind's line, and gives the place after them.
-fn one_kind(list: &[u8], from: usize, kind: u8) -> usize
+fn one_kind(output: &mut Output, list: &[u8], from: usize, kind: u8) -> usize
     requires { from ≤ length list.now }
     ensures { result ≤ length list.now }
 {
@@ -49,26 +49,26 @@ fn one_kind(list: &[u8], from: usize, kind: u8) -> usize
         at = end;
         size = size_at(list, at, kind);
     }
-    names::write(kind);
-    tally.write();
+    names::write(output, kind);
+    tally.write(output);
     at
 }
 
 // Replays the entries of every kind, and gives the place after them.
-fn all_kinds(list: &[u8]) -> usize
+fn all_kinds(output: &mut Output, list: &[u8]) -> usize
     ensures { result ≤ length list.now }
 {
     let mut at = 0;
     for kind in 0..37u8 {
-        at = one_kind(list, at, kind);
+        at = one_kind(output, list, at, kind);
     }
     at
 }
 
 // Replays the list, and says how much of it is left over: what is no entry, or stands out of order.
-pub fn write(list: &[u8]) {
-    let at = all_kinds(list);
-    io::write_all(STDOUT_FILENO, b"left over: ");
-    io::print_decimal(STDOUT_FILENO, (list.len() - at) as u64);
-    io::write_all(STDOUT_FILENO, b" bytes\n");
+pub fn write(output: &mut Output, list: &[u8]) {
+    let at = all_kinds(output, list);
+    output.write_all(b"left over: ");
+    output.print_decimal((list.len() - at) as u64);
+    output.write_all(b" bytes\n");
 }

@@ -1,9 +1,9 @@
 // The rows of the rules on either side of the edge that no theorem has.
 ghost use Rattle.std.specs.Prelude.{◌^◌, ◌<◌};
 
+use crate::output::Output;
 use crate::tally::Tally;
 use answers::{I8, U32};
-use libc::STDOUT_FILENO;
 
 fn root() -> Tally {
     Tally::new().count(int_sqrt::u64(u64::MAX) == 4_294_967_295)
@@ -57,15 +57,15 @@ fn guarded_write() -> Tally {
     tally.count(wide == 8 && table[0] == 0xF0A0)
 }
 
-pub fn write() {
-    io::write_all(STDOUT_FILENO, b"rows, root");
-    root().write();
-    io::write_all(STDOUT_FILENO, b"rows, log");
-    log().write();
-    io::write_all(STDOUT_FILENO, b"rows, remainder");
-    remainder().write();
-    io::write_all(STDOUT_FILENO, b"rows, next multiple");
-    next_multiple().write();
-    io::write_all(STDOUT_FILENO, b"rows, guarded write");
-    guarded_write().write();
+pub fn write(output: &mut Output) {
+    output.write_all(b"rows, root");
+    root().write(output);
+    output.write_all(b"rows, log");
+    log().write(output);
+    output.write_all(b"rows, remainder");
+    remainder().write(output);
+    output.write_all(b"rows, next multiple");
+    next_multiple().write(output);
+    output.write_all(b"rows, guarded write");
+    guarded_write().write(output);
 }

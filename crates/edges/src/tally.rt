@@ -2,7 +2,7 @@
 ghost use Rattle.std.specs.Prelude.{◌≡◌, ◌+◌, ◌^◌, ◌<◌};
 ghost use Rattle.edges.specs.Tally.{Counted};
 
-use libc::STDOUT_FILENO;
+use crate::output::Output;
 
 #[derive(Drop)]
 pub struct Tally {
@@ -36,11 +36,11 @@ impl Tally {
     }
 
     // The rest of a line that begins with a name.
-    pub fn write(self) {
-        io::write_all(STDOUT_FILENO, b": ");
-        io::print_decimal(STDOUT_FILENO, self.right);
-        io::write_all(STDOUT_FILENO, b" right, ");
-        io::print_decimal(STDOUT_FILENO, self.wrong);
-        io::write_all(STDOUT_FILENO, b" wrong\n");
+    pub fn write(self, output: &mut Output) {
+        output.write_all(b": ");
+        output.print_decimal(self.right);
+        output.write_all(b" right, ");
+        output.print_decimal(self.wrong);
+        output.write_all(b" wrong\n");
     }
 }

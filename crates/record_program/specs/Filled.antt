@@ -6,4 +6,4 @@ use Rattle.record_program.specs.declared.Filled.TheVariants.{Full, Ended, Failed
 abbrev pub ended_at : Filled → ℕ
 ended_at Full = 0
 ended_at (Ended n) = n
-ended_at Failed = 0
+ended_at (Failed _) = 0
