@@ -2,8 +2,7 @@
 use Rattle.std.proofs.Common.{◌≡◌, ℕ, ◌+◌, ◌-◌, ◌*◌, ◌/◌, ◌%◌, ◌^◌, ◌<◌, ◌≤◌, List, length, take, drop, ◌∙◌, arith, rules, le-ltb, lt-ltb}
 use Rattle.fields.specs.Fields.{number}
 use Rattle.edges.specs.Words.{word_at}
-use Rattle.edges.proofs.entry.word.Statement.{statement}
-use Rattle.edges.proofs.entry.word.Tie as tie
+use Rattle.edges.proofs.entry.word.Goals as goal
 
 module _ (words : List ℕ) (i : ℕ) where
   none : length words / 8 ≤ i → 0 ≡ word_at words i
@@ -14,15 +13,8 @@ module _ (words : List ℕ) (i : ℕ) where
   unfolding word_at
   whole h e = let n : 8 * i + 8 - 8 * i ≡ 8 = omega arith in rw (lt-ltb i (length words / 8) h) (e ∙ rw n)
 
-pub word_spec : {M : Type 1} → statement M
-word_spec =
-    tie.close
-    (tie.spec
-    (λ c. none _ _ (search rules))
-    (λ c. search rules)
-    (λ c. search rules)
-    (λ c. search rules)
-    (λ c. search rules)
-    (λ c. search rules)
-    (λ c κs. search rules)
-    (λ c. whole _ _ (search rules) c.get.ensures))
+pub returns-then-index-words : goal.returns-then-index-words
+returns-then-index-words c = none _ _ (search rules)
+
+pub returns : goal.returns
+returns c = whole _ _ (search rules) c.get.ensures

@@ -1,0 +1,13 @@
+-- The slices agree at every index below i.
+use Rattle.std.proofs.Common.{◌≡◌, ℕ, ◌-◌, ◌<◌, ◌≤◌, length, get_or}
+use Rattle.edges.proofs.slices.same.Given as goal
+
+abbrev pub invariant-loop-i : goal.invariant-loop-i
+invariant-loop-i l = record {
+  lengths : length l.a ≡ length l.b;
+  most : l.i ≤ length l.a;
+  so_far : (k : ℕ) → k < l.i → get_or l.a k 0 ≡ get_or l.b k 0;
+}
+
+abbrev pub decreases-loop-i : goal.decreases-loop-i
+decreases-loop-i l = length l.a - l.i
