@@ -1,7 +1,7 @@
 /*
  * Plyorchard: the proved core of a gift card balance server, for C and C++.
  *
- * Link crates/exports/out/libexports.a, which `rt lib exports` writes. Each function is proved, on every input, to
+ * Link crates/exports/out/libexports.a, which `tools/build exports` writes. Each function is proved, on every input, to
  * end, to break no rule of the language and to give the number of the definition that is named beside it, in a file
  * below crates/; so no number has to be checked first.
  *

@@ -1,5 +1,5 @@
 //! Links the proved functions: `crates/exports/out/libexports.a` of this repository.
-//! Where the archive is missing, or older than a Rattle source, `rt lib exports` writes it first.
+//! Where the archive is missing, or older than a Rattle source, `tools/build exports` writes it first.
 
 use std::path::{Path, PathBuf};
 use std::process::Command;
@@ -60,7 +60,10 @@ fn newest(path: &Path) -> io::Result<SystemTime> {
 /// Proves the exported functions and writes the archive.
 fn make(root: &Path) -> Result<(), String> {
     let mut rt = Command::new("rt");
-    let said = rt.args(["lib", "exports"]).current_dir(root).output();
+    let said = rt
+        .arg("lib")
+        .current_dir(root.join("crates/exports"))
+        .output();
     let said =
         said.map_err(|why| format!("cannot run rt, the command of the Rattle toolchain: {why}"))?;
     if said.status.success() {
@@ -68,7 +71,7 @@ fn make(root: &Path) -> Result<(), String> {
     }
     let lines = [said.stdout, said.stderr].concat();
     Err(format!(
-        "`rt lib exports` failed:\n{}",
+        "`rt lib` failed in crates/exports:\n{}",
         String::from_utf8_lossy(&lines)
     ))
 }

@@ -8,6 +8,7 @@ use answers::U64;
 use anyhow::{Context, Result, bail};
 use std::io;
 use std::io::{Read, Write};
+use std::process::ExitCode;
 
 // How reading went: the buffer is full, the input ended after so many bytes, or a read failed.
 #[derive(Drop)]
@@ -66,12 +67,22 @@ fn turn(
 
 // Room for 4,096 records and their answers. A proved loop has to end, and nothing says that the input does: the turns are
 // counted down from a number that no run uses up.
-fn main(rt: HostRuntime) -> Result<()> {
+fn run(reader: &mut impl Read, writer: &mut impl Write) -> Result<()> {
     let mut input = [0u8; 69_632];
     let mut output = [0u8; 36_864];
     let mut turns = u64::MAX;
-    while turns > 0 && turn(&mut rt.stdin(), &mut rt.stdout(), &mut input, &mut output)? {
+    while turns > 0 && turn(reader, writer, &mut input, &mut output)? {
         turns -= 1;
     }
     Ok(())
+}
+
+fn main(rt: HostRuntime) -> ExitCode {
+    match run(&mut rt.stdin(), &mut rt.stdout()) {
+        Ok(()) => ExitCode::SUCCESS,
+        Err(e) => {
+            let _ = eprintln!(rt; "{e:#}");
+            ExitCode::FAILURE
+        }
+    }
 }

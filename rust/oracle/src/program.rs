@@ -1,4 +1,4 @@
-//! The proved programs, as `tools/program NAME` makes them.
+//! The proved programs, as `tools/build NAME` makes them.
 
 use std::env;
 use std::path::Path;
@@ -12,7 +12,7 @@ use std::process::Command;
 pub fn program(name: &str) -> Command {
     let crates = Path::new(env!("CARGO_MANIFEST_DIR")).join("../../crates");
     let path = crates.join(name).join("out").join(name);
-    assert!(path.exists(), "`tools/program {name}` makes the program");
+    assert!(path.exists(), "`tools/build {name}` makes the program");
     match env::var_os("CARGO_TARGET_X86_64_UNKNOWN_LINUX_GNU_RUNNER") {
         Some(runner) => {
             let mut command = Command::new(runner);

@@ -1,6 +1,6 @@
 //! A gift card balance server's proved core, for Rust.
 //!
-//! Every function here calls a C function of the archive that `rt lib exports` writes. Each of those is proved, on
+//! Every function here calls a C function of the archive that `tools/build exports` writes. Each of those is proved, on
 //! every input, to end, to break no rule of the language and to give the number of its definition. So no call panics and
 //! none has to be checked first: what cannot be answered is a [`Refusal`].
 //!

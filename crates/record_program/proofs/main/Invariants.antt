@@ -1,5 +1,0 @@
--- `main` ends: the turns are counted down.
-use Rattle.record_program.proofs.main.Given as goal
-
-abbrev pub decreases-loop-turns : goal.decreases-loop-turns
-decreases-loop-turns l = l.turns
