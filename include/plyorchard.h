@@ -45,7 +45,7 @@ uint16_t ply_isqrt_u16(uint16_t n);
 uint32_t ply_isqrt_u32(uint32_t n);
 uint64_t ply_isqrt_u64(uint64_t n);
 
-/* The same, refused with 1 below 0. `rootOf` in int_sqrt/specs/Root. */
+/* The same, refused with 1 below 0. `root_of` in int_sqrt/specs/Root. */
 uint8_t ply_isqrt_i8_refusal(int8_t n);
 int8_t ply_isqrt_i8_value(int8_t n);
 uint8_t ply_isqrt_i16_refusal(int16_t n);
@@ -56,7 +56,7 @@ uint8_t ply_isqrt_i64_refusal(int64_t n);
 int64_t ply_isqrt_i64_value(int64_t n);
 
 /* The decimal logarithm: the k with 10^k <= v < 10^(k+1), refused with 2 where v <= 0.
- * `logOf` in int_log10/specs/Log. */
+ * `log_of` in int_log10/specs/Log. */
 uint8_t ply_ilog10_u8_refusal(uint8_t v);
 uint32_t ply_ilog10_u8_value(uint8_t v);
 uint8_t ply_ilog10_u16_refusal(uint16_t v);
@@ -74,7 +74,7 @@ uint32_t ply_ilog10_i32_value(int32_t v);
 uint8_t ply_ilog10_i64_refusal(int64_t v);
 uint32_t ply_ilog10_i64_value(int64_t v);
 
-/* How many decimal digits v has, refused with 2 for 0. `digitCount` in int_log10/specs/Log. */
+/* How many decimal digits v has, refused with 2 for 0. `digit_count` in int_log10/specs/Log. */
 uint8_t ply_digit_count_refusal(uint64_t v);
 uint32_t ply_digit_count_value(uint64_t v);
 
@@ -93,7 +93,7 @@ uint32_t ply_scatter_u32(uint32_t x, uint32_t mask);
 uint64_t ply_scatter_u64(uint64_t x, uint64_t mask);
 
 /* The Euclidean remainder: the r with 0 <= r < |d| and a - r a multiple of d, refused with 3 for d = 0 and with 4 for
- * MIN by -1. `remEuclid` in signed/specs/Signed. */
+ * MIN by -1. `rem_euclid` in signed/specs/Signed. */
 uint8_t ply_rem_euclid_i8_refusal(int8_t a, int8_t d);
 int8_t ply_rem_euclid_i8_value(int8_t a, int8_t d);
 uint8_t ply_rem_euclid_i16_refusal(int16_t a, int16_t d);
@@ -104,7 +104,7 @@ uint8_t ply_rem_euclid_i64_refusal(int64_t a, int64_t d);
 int64_t ply_rem_euclid_i64_value(int64_t a, int64_t d);
 
 /* For d > 0 the least multiple of d that is >= a, for d < 0 the greatest that is <= a; refused with 3 for d = 0 and
- * with 4 where it does not fit. `nextMultiple` in signed/specs/Signed. */
+ * with 4 where it does not fit. `next_multiple` in signed/specs/Signed. */
 uint8_t ply_next_multiple_of_i8_refusal(int8_t a, int8_t d);
 int8_t ply_next_multiple_of_i8_value(int8_t a, int8_t d);
 uint8_t ply_next_multiple_of_i16_refusal(int16_t a, int16_t d);
@@ -162,7 +162,7 @@ int16_t ply_wrapping_neg_i16(int16_t a);
 int32_t ply_wrapping_neg_i32(int32_t a);
 int64_t ply_wrapping_neg_i64(int64_t a);
 
-/* |a|, unsigned: 128 for the 8-bit -128. Never refused. `natAbs` of the library. */
+/* |a|, unsigned: 128 for the 8-bit -128. Never refused. `nat_abs` of the library. */
 uint8_t ply_unsigned_abs_i8(int8_t a);
 uint16_t ply_unsigned_abs_i16(int16_t a);
 uint32_t ply_unsigned_abs_i32(int32_t a);
@@ -170,25 +170,25 @@ uint64_t ply_unsigned_abs_i64(int64_t a);
 
 /* Writes each word of the source, gathered or scattered under the mask, into the destination from the place on; its
  * other words stay. Gives the refusal, 10 where the place lies past the end or the source is longer than what remains,
- * or 0. `roomReply` and `batched` in batches/specs/Batch. */
+ * or 0. `room_reply` and `batched` in batches/specs/Batch. */
 uint8_t ply_gather_batch(const uint64_t *source, size_t source_count, uint64_t mask,
                          uint64_t *destination, size_t destination_count, size_t place);
 uint8_t ply_scatter_batch(const uint64_t *source, size_t source_count, uint64_t mask,
                           uint64_t *destination, size_t destination_count, size_t place);
 
 /* The number in a card's field: the card's word gathered under the mask. Refused with 5, 6 or 7.
- * `readReply` in cards/specs/Table. */
+ * `read_reply` in cards/specs/Table. */
 uint8_t ply_card_read_refusal(const uint64_t *table, size_t table_count, size_t card, uint64_t mask);
 uint64_t ply_card_read_value(const uint64_t *table, size_t table_count, size_t card, uint64_t mask);
 
 /* Puts a new number into a card's field if the field holds the expected one, and changes no other bit. Gives the
- * refusal, 5 to 9, or 0. `writeReply` and `written` in cards/specs/Table. */
+ * refusal, 5 to 9, or 0. `write_reply` and `written` in cards/specs/Table. */
 uint8_t ply_card_write(uint64_t *table, size_t table_count, size_t card, uint64_t mask,
                        uint64_t expected, uint64_t new_number);
 
 /* Answers one record: 17 bytes in, 9 bytes out (docs/RULES.md, Records). Gives the refusal or 0. With 13, for a length
  * that is another, the answer stays; every other refusal is written into it too.
- * `oneReply` and `answered` in records/specs/Records. */
+ * `one_reply` and `answered` in records/specs/Records. */
 uint8_t ply_record(const uint8_t *asked, size_t asked_count, uint8_t *answer, size_t answer_count);
 
 #ifdef __cplusplus
