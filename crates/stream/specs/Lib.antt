@@ -1,0 +1,4 @@
+-- The definitions that the contracts cite, and those of the theorem over all cuttings.
+pub mod Stream
+pub mod Packed
+pub mod Cuttings
