@@ -7,6 +7,7 @@ use native.Mathlib.Omega.{arith}
 use lib.Arith.{digits_lt}
 use lib.Pow.{pow_pos, pow_mono, shr-shr, shl-shr, field, high, mod-pow-add, mod-mod-pow}
 use lib.Bits.{bit_and, bit_xor, and_shr, xor_shr, and_step, xor_add_and}
+use lib.Count.{count_trailing_zeros, trailing_le}
 use Rattle.laws.proofs.Order.{by_order}
 use Rattle.int_bits.specs.Gather.{bit}
 use Rattle.int_bits.specs.Stages.{from_bits}
@@ -81,15 +82,19 @@ bit_top b c g hb hg = ap (λ (y : ℕ). y % 2) (high b c hg) ∙ mod-eq_of_lt hb
 pub bit_under : (b c g j : ℕ) → j < c → bit (b * 2 ^ c + g) j ≡ bit g j
 bit_under b c g j h = sym (bit-mod (b * 2 ^ c + g) c j h) ∙ ap (λ (y : ℕ). bit y j) (mul-add-mod_self_right b (2 ^ c) g) ∙ bit-mod g c j h
 
--- ---- a shift to the left by n, at width w
+-- ---- a shift to the left by n, whole and at width w
+
+pub bit_up_low : (a n j : ℕ) → j < n → bit (a * 2 ^ n) j ≡ 0
+bit_up_low a n j h = ap (λ (y : ℕ). bit y j) (sym (add-zero (a * 2 ^ n))) ∙ bit_under a n 0 j h ∙ bit_none j
+
+pub bit_up : (a n j : ℕ) → bit (a * 2 ^ n) (n + j) ≡ bit a j
+bit_up a n j = sym (bit-shr (a * 2 ^ n) n j) ∙ ap (λ (y : ℕ). bit y j) (shl-shr a n)
 
 pub bit_shl_low : (a n w j : ℕ) → j < n → j < w → bit ((a * 2 ^ n) % 2 ^ w) j ≡ 0
-bit_shl_low a n w j h hw =
-    bit-mod (a * 2 ^ n) w j hw ∙ ap (λ (y : ℕ). bit y j) (sym (add-zero (a * 2 ^ n))) ∙ bit_under a n 0 j h ∙ bit_none j
+bit_shl_low a n w j h hw = bit-mod (a * 2 ^ n) w j hw ∙ bit_up_low a n j h
 
 pub bit-shl : (a n w j : ℕ) → n + j < w → bit ((a * 2 ^ n) % 2 ^ w) (n + j) ≡ bit a j
-bit-shl a n w j h =
-    bit-mod (a * 2 ^ n) w (n + j) h ∙ sym (bit-shr (a * 2 ^ n) n j) ∙ ap (λ (y : ℕ). bit y j) (shl-shr a n)
+bit-shl a n w j h = bit-mod (a * 2 ^ n) w (n + j) h ∙ bit_up a n j
 
 -- ---- a number made of its bits
 
@@ -106,6 +111,33 @@ module _ (f : ℕ → ℕ) (hf : (j : ℕ) → f j < 2) where
       by_order j w
       (λ l. bit_under (f w) w (from_bits w f) j l ∙ bit_from w j l)
       (λ l. let e : j ≡ w = omega arith in rw e (bit_top (f w) w (from_bits w f) (hf w) (from_lt w)))
+
+-- ---- the zeros below the lowest one, as the machine's trailing_zeros counts them
+
+module _ (k n : ℕ) where
+  trailing_even : n % 2 ≡ 0 → count_trailing_zeros (suc k) n ≡ suc (count_trailing_zeros k (n / 2))
+  unfolding count_trailing_zeros
+  trailing_even e = rw e
+
+  trailing_odd : n % 2 ≡ 1 → count_trailing_zeros (suc k) n ≡ 0
+  unfolding count_trailing_zeros
+  trailing_odd e = rw e
+
+pub trailing_zero : (k n j : ℕ) → j < count_trailing_zeros k n → bit n j ≡ 0
+trailing_zero zero n j h = absurd (omega (arith, trailing_le 0 n))
+trailing_zero (suc k) n zero h =
+    by_bit _ (n % 2) (omega arith) (λ e. bit-zero n ∙ e) (λ e. absurd (omega (arith, trailing_odd k n e)))
+trailing_zero (suc k) n (suc j) h =
+    by_bit _ (n % 2) (omega arith)
+    (λ e. bit-suc n j ∙ trailing_zero k (n / 2) j (omega (arith, trailing_even k n e)))
+    (λ e. absurd (omega (arith, trailing_odd k n e)))
+
+pub trailing_one : (k n : ℕ) → count_trailing_zeros k n < k → bit n (count_trailing_zeros k n) ≡ 1
+trailing_one zero n h = absurd (omega arith)
+trailing_one (suc k) n h =
+    by_bit _ (n % 2) (omega arith)
+    (λ e. rw (trailing_even k n e) (bit-suc n (count_trailing_zeros k (n / 2)) ∙ trailing_one k (n / 2) (omega (arith, trailing_even k n e))))
+    (λ e. rw (trailing_odd k n e) (bit-zero n ∙ e))
 
 -- ---- numbers with the same bits are the same
 

@@ -43,6 +43,11 @@ pub count_lt : (m p w : ℕ) → p < w → bit m p ≡ 1 → count m p < count m
 count_lt m p w h one =
     omega (arith, count-suc m p, count_between m (suc p) (w - suc p), ap (count m) {x = suc p + (w - suc p)} {y = w} (omega arith))
 
+-- where there is no one nothing is counted
+pub count_none : (m p : ℕ) → ((q : ℕ) → q < p → bit m q ≡ 0) → count m p ≡ 0
+count_none m zero h = count-zero m
+count_none m (suc p) h = count-suc m p ∙ omega (arith, count_none m p (λ q l. h q (omega arith)), h p (omega arith))
+
 -- past the width nothing is counted
 pub count_past : (w m p t : ℕ) → m < 2 ^ w → w ≤ p → count m (p + t) ≡ count m p
 unfolding count

@@ -18,6 +18,16 @@ module _ (w m : ℕ) (hm : m < 2 ^ w) (x : ℕ) where
   pub gather_ones : gather w x m < 2 ^ ones m
   gather_ones = rw (count_ones w m hm) at (gather_lt w x m)
 
+  -- the bits of x off m do not matter
+  pub gather_under : gather w (bit_and x m) m ≡ gather w x m
+  gather_under = gather_only w m hm is
+    where
+      is : Gathered (bit_and x m) m (gather w x m)
+      is = record {
+        at = λ j p o. (gather_is w m hm x).at j p o ∙ sym (bit-and x m p ∙ rw o.one (omega (arith, bit_lt x p)));
+        rest = (gather_is w m hm x).rest;
+      }
+
   -- scatter after gather is x AND m
   pub scatter-gather : scatter w (gather w x m) m ≡ bit_and x m
   scatter-gather = scatter_only w m hm is

@@ -4,6 +4,8 @@ pub mod Count
 pub mod Gather
 pub mod Meaning
 pub mod Laws
+pub mod Run
+pub mod Edges
 pub mod Stored
 pub mod Width
 pub mod Masks

@@ -1,17 +1,17 @@
 -- A word with a number stored in a field: it fits, the field holds the number, and the other bits are the word's. Assumes nothing.
-use mathlib.Core.Path.{◌≡◌, sym}
+use mathlib.Core.Path.{◌≡◌, sym, ap, ◌∙◌}
 use Prim.Native.Nat.{ℕ, ◌+◌, ◌-◌, ◌%◌, ◌^◌, ◌<◌, min}
 use native.Mathlib.Nat.{lt_of_le_of_lt}
 use native.Mathlib.Omega.{arith}
 use lib.Bits.{bit_and, bit_xor, and_le_l, xor_lt, xor_add_and, xor_disjoint}
 use lib.Count.{ones}
-use Rattle.int_bits.specs.Gather.{gather, scatter, bit}
+use Rattle.int_bits.specs.Gather.{gather, scatter, bit, count}
 use Rattle.int_bits.specs.Meaning.{One, Gathered}
 use Rattle.int_bits.specs.Stored.{stored}
 use Rattle.int_bits.proofs.Bit.{by_bit, bit_lt, bit-and, bit-xor, bit_high, bit_none, same}
 use Rattle.int_bits.proofs.Count.{count_ones}
 use Rattle.int_bits.proofs.Gather.{scatter_lt}
-use Rattle.int_bits.proofs.Meaning.{by_place, gather_only, scatter_is}
+use Rattle.int_bits.proofs.Meaning.{one_at, by_place, gather_is, gather_only, scatter_is}
 use Rattle.int_bits.proofs.Laws.{scatter-gather}
 
 -- neither the difference nor the sum of `stored` carries: both are XOR
@@ -56,6 +56,14 @@ module _ (w mask : ℕ) (hm : mask < 2 ^ w) (word new : ℕ) where
         at = λ j p o. sym (stored_at j p o);
         rest = λ j none. by_place w mask hm _ j (λ p o. absurd (none p o)) (bit_high (rw (← count_ones w mask hm) at h));
       }
+
+  -- no other word holds the number in the field and has the word's bits off the mask
+  pub stored_only : {other : ℕ} → gather w other mask ≡ new → ((p : ℕ) → bit mask p ≡ 0 → bit other p ≡ bit word p) → other ≡ stored w word mask new
+  stored_only {other} e off =
+      same _ _ (λ p.
+      by_bit _ (bit mask p) (bit_lt mask p)
+      (λ z. off p z ∙ sym (stored_off p z))
+      (λ o. sym ((gather_is w mask hm other).at _ p (one_at o)) ∙ ap (λ n. bit n (count mask p)) e ∙ sym (stored_at _ p (one_at o))))
 
 -- a word with its own field stored again is the same word
 pub stored_same : (w mask : ℕ) → mask < 2 ^ w → (word : ℕ) → stored w word mask (gather w word mask) ≡ word

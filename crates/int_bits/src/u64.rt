@@ -2,6 +2,7 @@
 ghost use Rattle.std.specs.Prelude.{◌≡◌};
 ghost use Rattle.std.specs.Int.Bits.{bit_and};
 ghost use Rattle.int_bits.specs.Gather.{gather, scatter};
+ghost use Rattle.int_bits.specs.Run.{Starts};
 ghost use Rattle.int_bits.specs.Stages.{stage_masks, extract_stages, deposit_stages};
 
 const BITS: usize = 64;
@@ -72,16 +73,41 @@ pub fn deposit_impl(masks: [u64; STAGES], mut x: u64, sparse: u64) -> u64
     x & sparse
 }
 
-// The bits of `x` at the ones of `mask`, moved together from bit 0 up.
+// Where the ones of `mask` start if they are adjacent, and 64 if they are not.
+fn run_start(mask: u64) -> u32
+    ensures { Starts 64 mask result }
+{
+    // The ones above the lowest, and the zeros below it.
+    let others = mask.wrapping_sub(1);
+    // Where a bit differs from the one below it: `prepare` starts with the same, so that other masks pay little for the test.
+    let zeros = !mask;
+    let edges = zeros ^ zeros << 1;
+    // Above bit 0 both have the start of each run but the lowest.
+    if others & edges < 2 {
+        return (edges ^ 1).trailing_zeros() & 63;
+    }
+    64
+}
+
+// The bits of `x` at the ones of `mask`, moved together from bit 0 up. Under a single run they are together already.
 pub fn gather(x: u64, mask: u64) -> u64
     ensures { result ≡ gather 64 x mask }
 {
-    extract_impl(prepare(mask), x, mask)
+    let field = x & mask;
+    let start = run_start(mask);
+    if start >= 64 {
+        return extract_impl(prepare(mask), field, mask);
+    }
+    field >> start
 }
 
-// The bits of `x` from bit 0 up, moved apart to the ones of `mask`.
+// The bits of `x` from bit 0 up, moved apart to the ones of `mask`. Under a single run they stay together.
 pub fn scatter(x: u64, mask: u64) -> u64
     ensures { result ≡ scatter 64 x mask }
 {
-    deposit_impl(prepare(mask), x, mask)
+    let start = run_start(mask);
+    if start >= 64 {
+        return deposit_impl(prepare(mask), x, mask);
+    }
+    x << start & mask
 }

@@ -19,7 +19,7 @@ pub mod table;
 
 pub use counter::Counter;
 pub use inputs::{boundaries, pairs, powers_of_ten, values, Random};
-pub use masks::masks;
+pub use masks::{masks, runs};
 pub use num::{deposit_u16, deposit_u32, deposit_u64, deposit_u8};
 pub use num::{extract_u16, extract_u32, extract_u64, extract_u8};
 pub use num::{ilog10_i16, ilog10_i32, ilog10_i64, ilog10_i8};

@@ -8,7 +8,7 @@ fn full(width: u32) -> u64 {
 }
 
 /// Each mask of this width whose ones are a single run.
-fn runs(width: u32) -> impl Iterator<Item = u64> + Clone {
+pub fn runs(width: u32) -> impl Iterator<Item = u64> + Clone {
     (1..=width).flat_map(move |ones| (0..=width - ones).map(move |place| full(ones) << place))
 }
 
