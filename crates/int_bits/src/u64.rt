@@ -93,12 +93,11 @@ fn run_start(mask: u64) -> u32
 pub fn gather(x: u64, mask: u64) -> u64
     ensures { result ≡ gather 64 x mask }
 {
-    let field = x & mask;
     let start = run_start(mask);
-    if start >= 64 {
-        return extract_impl(prepare(mask), field, mask);
+    if start < 64 {
+        return (x & mask) >> start;
     }
-    field >> start
+    extract_impl(prepare(mask), x, mask)
 }
 
 // The bits of `x` from bit 0 up, moved apart to the ones of `mask`. Under a single run they stay together.
@@ -106,8 +105,8 @@ pub fn scatter(x: u64, mask: u64) -> u64
     ensures { result ≡ scatter 64 x mask }
 {
     let start = run_start(mask);
-    if start >= 64 {
-        return deposit_impl(prepare(mask), x, mask);
+    if start < 64 {
+        return x << start & mask;
     }
-    x << start & mask
+    deposit_impl(prepare(mask), x, mask)
 }

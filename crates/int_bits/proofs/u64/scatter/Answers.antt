@@ -4,8 +4,8 @@ use Rattle.int_bits.proofs.Run.{shifted_up}
 use Rattle.int_bits.proofs.Width.{w64}
 use Rattle.int_bits.proofs.u64.scatter.Goals as goal
 
-pub returns-then-start-ge64 : goal.returns-then-start-ge64
-returns-then-start-ge64 c = deposited w64 c.args.x c.ranges.mask.fits c.prepare.ensures c.deposit_impl.ensures
+pub returns-then-start-lt64 : goal.returns-then-start-lt64
+returns-then-start-lt64 c = shifted_up (c.run_start-start.ensures.run c.if-start-lt64.true).1 64 c.ranges.mask.fits c.args.x
 
 pub returns : goal.returns
-returns c = shifted_up (c.run_start-start.ensures.run c.if-start-ge64.false).1 64 c.ranges.mask.fits c.args.x
+returns c = deposited w64 c.args.x c.ranges.mask.fits c.prepare.ensures c.deposit_impl.ensures
