@@ -30,7 +30,7 @@ pub data Run : Stream → List (List ℕ) → List ℕ → Type 0 where
   refused : {s : Stream} {input left output output' bytes : List ℕ} {fragments : List (List ℕ)} {r : Fed} {why : Refusal} →
       Takes s input left output r output' → r.reply ≡ U64.Refused why → Run r.state fragments bytes → Run s fragments bytes
 
--- the same in C: each call a call of `ply_stream_feed` or `ply_stream_end` on the 17 bytes that the one before it left
+-- the same in the bytes and numbers of C: each call feeds or ends on the 17 bytes that the one before it left
 pub data ToldRun : List ℕ → List (List ℕ) → List ℕ → Type 0 where
   told_fed : {b fragment output b' output' bytes : List ℕ} {fragments : List (List ℕ)} {refusal written : ℕ} →
       ToldFeed b fragment output refusal written b' output' → 9 * (length (kept (state_of b) ++ fragment) / 17) ≤ length output → ToldRun b' fragments bytes →

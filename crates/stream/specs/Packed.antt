@@ -28,7 +28,7 @@ pub record Told (b input left output : List ℕ) (refusal written : ℕ) (b' out
   pub leaves_state : b' ≡ leaves (take_reply (state_of b) input output) (bytes_of (keeping left)) b
   pub leaves_output : output' ≡ leaves (take_reply (state_of b) input output) (in_front input output) output
 
--- `ply_stream_feed` and `ply_stream_end`
+-- a feed and an end
 abbrev pub ToldFeed : List ℕ → List ℕ → List ℕ → ℕ → ℕ → List ℕ → List ℕ → Type 0
 ToldFeed b fragment = Told b (whole (kept (state_of b) ++ fragment)) (rest (kept (state_of b) ++ fragment))
 
