@@ -1,5 +1,5 @@
 //! Links the proved functions: `crates/exports/out/libexports.a` of this repository.
-//! Where the archive is missing, or older than a Rattle source, `tools/build exports` writes it first.
+//! Where the archive is missing, or older than a Rattle source, `rt lib` in `crates/exports` writes it first.
 
 use std::path::{Path, PathBuf};
 use std::process::Command;

@@ -17,32 +17,32 @@ mod slices;
 mod table;
 mod tally;
 
-ghost use Rattle.std.specs.Prelude.{◌≤◌, length, IfOk};
+ghost use Rattle.std.specs.Prelude.{◌≤◌, length};
 
 use output::Output;
 use std::io;
 use std::io::Read;
 
-// Reads until the buffer is full or the input ends, and says how many bytes it read.
-fn read_full(reader: &mut impl Read, buffer: &mut [u8]) -> io::Result<usize>
-    ensures { IfOk result (λ n. n ≤ length buffer.new) }
+// Reads until the buffer is full or the input ends, and says how many bytes it read. A read that fails ends the input.
+fn read_full(reader: &mut impl Read, buffer: &mut [u8]) -> usize
+    ensures { result ≤ length buffer.new }
 {
     let mut n = 0;
     while n < buffer.len() {
-        let more = reader.read(&mut buffer[n..])?;
-        if more == 0 {
-            break;
+        match reader.read(&mut buffer[n..]) {
+            Ok(0) => return n,
+            Ok(more) => n += more,
+            Err(_) => return n,
         }
-        n += more;
     }
-    Ok(n)
+    n
 }
 
 fn main(rt: HostRuntime) -> io::Result<()> {
     let mut output = Output::new(rt.stdout());
     rows::write(&mut output);
     let mut list = [0u8; 262_144];
-    let n = read_full(&mut rt.stdin(), &mut list)?;
+    let n = read_full(&mut rt.stdin(), &mut list);
     replay::write(&mut output, &list[..n]);
     output.end()
 }
