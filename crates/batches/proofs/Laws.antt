@@ -1,13 +1,15 @@
 -- Laws of batches: accepted exactly when the results fit, what then stands where, and that the promises leave no choice.
 use mathlib.Core.Path.{◌≡◌, refl, sym, ap, ◌∙◌}
 use mathlib.Core.List.{List, [], ◌∷◌, ◌++◌, map, append-nil}
-use Prim.Native.Nat.{ℕ, zero, suc, ◌+◌, ◌-◌, ◌≤◌, ◌<◌}
+use Prim.Native.Nat.{ℕ, zero, suc, ◌-◌, ◌≤◌, ◌<◌}
 use native.Mathlib.Nat.{le_of_eq}
 use native.Mathlib.Omega.{arith}
-use lib.ListN.{length, get_or, take, drop, length-map, length-append, length-drop, drop_of_length-le, get_or-append}
-use lib.Seq.{take_all, drop-drop, length-take-le, get_or-take, get_or-drop, get_or-append-add}
+use lib.ListN.{length, get_or, drop, length-map, length-drop, drop_of_length-le}
+use lib.Seq.{take_all, drop-drop}
 use borrow.Author.Tests.{ltb-false, le-ltb}
 use borrow.Rule.Slice.PartMut.{mid_of, put_mid, mid_len}
+use Rattle.laws.specs.Placed.{InPlace}
+use Rattle.laws.proofs.Placed.{placed_is, one_placed}
 use Rattle.answers.specs.Reply.{leaves}
 use Rattle.answers.specs.Answers.{means_done}
 use Rattle.answers.specs.declared.Refusal.{Refusal}
@@ -87,26 +89,25 @@ at_map f [] i h = absurd (omega arith)
 at_map f (x ∷ l) zero h = refl
 at_map f (x ∷ l) (suc i) h = at_map f l i (omega arith)
 
--- an index counted from the end of a front
-past : (front rest : List ℕ) (n i : ℕ) → length front ≡ n → get_or (front ++ rest) (n + i) 0 ≡ get_or rest i 0
-past front rest n i e = rw (← e) (get_or-append-add front rest i 0)
+-- the words of a batch in their place are its results in their place
+module _ {f : ℕ → ℕ} {source destination : List ℕ} {place : ℕ} {after : List ℕ} where
+  results_placed : Stands f source destination place after → InPlace (map f source) destination place after
+  results_placed s =
+      let m : length (map f source) ≡ length source = length-map source f in
+      record { within = λ i h. s.results i (omega arith) ∙ sym (at_map f source i (omega arith)); before = s.before; behind = λ i h. s.behind i (omega arith); same_length = s.same_length }
+
+  placed_results : InPlace (map f source) destination place after → Stands f source destination place after
+  placed_results p =
+      let m : length (map f source) ≡ length source = length-map source f in
+      record { results = λ i h. p.within i (omega arith) ∙ at_map f source i h; before = p.before; behind = λ i h. p.behind i (omega arith); same_length = p.same_length }
+
+there : (f : ℕ → ℕ) (source destination : List ℕ) (place : ℕ) → Room (length source) (length destination) place → InPlace (map f source) destination place (placed (map f source) destination place)
+there f source destination place ok = placed_is (map f source) destination place (rw (length-map source f) (omega (arith, ok.inside, ok.enough)))
 
 pub stands : {f : ℕ → ℕ} {source destination : List ℕ} {place : ℕ} {after : List ℕ} → Batches f source destination place Done.Accepted after → Stands f source destination place after
-stands {f} {source} {destination} {place} p =
-    let ok = batch_only_if p in
-    let front = take place destination in
-    let results = map f source in
-    let rest = drop (place + length results) destination in
-    let n : length front ≡ place = length-take-le place destination ok.inside in
-    let m : length results ≡ length source = length-map source f in
-    rw (left_by p)
-    (record {
-      results = λ i h. past front (results ++ rest) place i n ∙ get_or-append results rest 0 i (omega arith) ∙ at_map f source i h;
-      before = λ i h. get_or-append front (results ++ rest) 0 i (omega arith) ∙ get_or-take place destination i 0 h;
-      behind = λ i h.
-          let j = i - (place + length source) in
-          let e : i ≡ place + (length source + j) = omega arith in
-          ap (λ k. get_or (front ++ (results ++ rest)) k 0) e ∙ past front (results ++ rest) place (length source + j) n ∙ past results rest (length source) j m
-          ∙ get_or-drop (place + length results) destination j 0 ∙ ap (λ k. get_or destination k 0) (omega arith);
-      same_length = simp (length-append, n, m, length-drop) (omega arith);
-    })
+stands {f} {source} {destination} {place} p = rw (left_by p) (placed_results (there f source destination place (batch_only_if p)))
+
+-- what stands where determines the destination: nothing but the batch's results in their place stands so
+pub stands_only : {f : ℕ → ℕ} {source destination : List ℕ} {place : ℕ} {after : List ℕ} → Room (length source) (length destination) place →
+    Stands f source destination place after → after ≡ placed (map f source) destination place
+stands_only {f} {source} {destination} {place} ok s = one_placed (results_placed s) (there f source destination place ok)

@@ -35,7 +35,7 @@ pub extern "C" fn ply_isqrt_u64(n: u64) -> u64
 pub extern "C" fn ply_isqrt_i8_refusal(n: i8) -> u8
     ensures { result ≡ refusal_of (root_of n) }
 {
-    int_sqrt::i8(n).refusal()
+    int_sqrt::root_check(n as i64).refusal()
 }
 
 #[unsafe(no_mangle)]
@@ -49,7 +49,7 @@ pub extern "C" fn ply_isqrt_i8_value(n: i8) -> i8
 pub extern "C" fn ply_isqrt_i16_refusal(n: i16) -> u8
     ensures { result ≡ refusal_of (root_of n) }
 {
-    int_sqrt::i16(n).refusal()
+    int_sqrt::root_check(n as i64).refusal()
 }
 
 #[unsafe(no_mangle)]
@@ -63,7 +63,7 @@ pub extern "C" fn ply_isqrt_i16_value(n: i16) -> i16
 pub extern "C" fn ply_isqrt_i32_refusal(n: i32) -> u8
     ensures { result ≡ refusal_of (root_of n) }
 {
-    int_sqrt::i32(n).refusal()
+    int_sqrt::root_check(n as i64).refusal()
 }
 
 #[unsafe(no_mangle)]
@@ -77,7 +77,7 @@ pub extern "C" fn ply_isqrt_i32_value(n: i32) -> i32
 pub extern "C" fn ply_isqrt_i64_refusal(n: i64) -> u8
     ensures { result ≡ refusal_of (root_of n) }
 {
-    int_sqrt::i64(n).refusal()
+    int_sqrt::root_check(n).refusal()
 }
 
 #[unsafe(no_mangle)]

@@ -86,7 +86,17 @@ pub fn overflowing_sub(a: i16, rhs: i16) -> Overflowing
 pub fn overflowing_neg(a: i16) -> Overflowing
     ensures { Overflows w16 (neg_ℤ a) result.value result.overflow }
 {
-    overflowing_sub(0, a)
+    if a == i16::MIN {
+        Overflowing {
+            value: i16::MIN,
+            overflow: true,
+        }
+    } else {
+        Overflowing {
+            value: -a,
+            overflow: false,
+        }
+    }
 }
 
 pub fn strict_add(a: i16, rhs: i16) -> I16

@@ -86,7 +86,17 @@ pub fn overflowing_sub(a: i32, rhs: i32) -> Overflowing
 pub fn overflowing_neg(a: i32) -> Overflowing
     ensures { Overflows w32 (neg_ℤ a) result.value result.overflow }
 {
-    overflowing_sub(0, a)
+    if a == i32::MIN {
+        Overflowing {
+            value: i32::MIN,
+            overflow: true,
+        }
+    } else {
+        Overflowing {
+            value: -a,
+            overflow: false,
+        }
+    }
 }
 
 pub fn strict_add(a: i32, rhs: i32) -> I32

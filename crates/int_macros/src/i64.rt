@@ -86,7 +86,17 @@ pub fn overflowing_sub(a: i64, rhs: i64) -> Overflowing
 pub fn overflowing_neg(a: i64) -> Overflowing
     ensures { Overflows w64 (neg_ℤ a) result.value result.overflow }
 {
-    overflowing_sub(0, a)
+    if a == i64::MIN {
+        Overflowing {
+            value: i64::MIN,
+            overflow: true,
+        }
+    } else {
+        Overflowing {
+            value: -a,
+            overflow: false,
+        }
+    }
 }
 
 pub fn strict_add(a: i64, rhs: i64) -> I64

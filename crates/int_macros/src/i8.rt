@@ -86,7 +86,17 @@ pub fn overflowing_sub(a: i8, rhs: i8) -> Overflowing
 pub fn overflowing_neg(a: i8) -> Overflowing
     ensures { Overflows w8 (neg_ℤ a) result.value result.overflow }
 {
-    overflowing_sub(0, a)
+    if a == i8::MIN {
+        Overflowing {
+            value: i8::MIN,
+            overflow: true,
+        }
+    } else {
+        Overflowing {
+            value: -a,
+            overflow: false,
+        }
+    }
 }
 
 pub fn strict_add(a: i8, rhs: i8) -> I8

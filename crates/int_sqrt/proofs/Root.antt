@@ -1,9 +1,10 @@
 -- The root's laws: it is the s with s * s ≤ n < (s + 1) * (s + 1), and no other number is.
-use Rattle.std.proofs.Common.{◌≡◌, ℕ, zero, suc, ◌+◌, ◌*◌, ◌<◌, ◌≤◌, refl, lt_of_le_of_lt, mul-le-mul, le_antisymm, arith, ltb-false, ltb-true, lt-ltb}
+use Rattle.std.proofs.Common.{◌≡◌, ℕ, zero, suc, ◌+◌, ◌*◌, ◌<◌, ◌≤◌, ℤ, pos, negsuc, refl, lt_of_le_of_lt, mul-le-mul, le_antisymm, arith, ltb-false, ltb-true, lt-ltb}
+use Rattle.answers.specs.Reply.{refusal_of}
 use Rattle.laws.specs.First.{first_from}
 use Rattle.laws.proofs.First.{first_passes, first_only}
 use Rattle.laws.proofs.Order.{by_order}
-use Rattle.int_sqrt.specs.Root.{Root, Remainder, passed, root}
+use Rattle.int_sqrt.specs.Root.{Root, Remainder, passed, root, root_of, root_check}
 
 pub root_is : (n : ℕ) → Root n (root n)
 unfolding root
@@ -36,3 +37,8 @@ root_le n = below (root n) (root_is n).low
 
 pub remainder_root : {n s r : ℕ} → Remainder n s r → Root n s
 remainder_root p = record { low = omega arith; high = omega arith }
+
+-- the check refuses as the root does
+pub check_refusal : (z : ℤ) → refusal_of (root_check z) ≡ refusal_of (root_of z)
+check_refusal (pos n) = refl
+check_refusal (negsuc n) = refl

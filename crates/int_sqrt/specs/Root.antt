@@ -1,6 +1,6 @@
 -- The integer square root.
 use Rattle.std.specs.Prelude.{◌≡◌, ℕ, ◌+◌, ◌*◌, ◌<◌, ◌≤◌, Bool, ℤ, pos, negsuc, nat_lt}
-use Rattle.answers.specs.Reply.{Reply, gives, refused}
+use Rattle.answers.specs.Reply.{Reply, gives, refused, mapped}
 use Rattle.laws.specs.First.{first_from}
 
 -- s is the root of n
@@ -25,3 +25,7 @@ root n = first_from (passed n) n 0
 abbrev pub root_of : ℤ → Reply ℤ
 root_of (pos n) = gives (pos (root n))
 root_of (negsuc n) = refused 1
+
+-- the same refusal, without the root
+abbrev pub root_check : ℤ → Reply Unit
+root_check z = mapped (λ _. tt) (root_of z)

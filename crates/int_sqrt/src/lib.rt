@@ -8,10 +8,10 @@ mod at_u64;
 mod tables;
 
 ghost use Rattle.std.specs.Prelude.{◌≡◌, ◌^◌, ◌≤◌};
-ghost use Rattle.answers.specs.Answers.{means_i8, means_i16, means_i32, means_i64};
-ghost use Rattle.int_sqrt.specs.Root.{Root, root, root_of};
+ghost use Rattle.answers.specs.Answers.{means_done, means_i8, means_i16, means_i32, means_i64};
+ghost use Rattle.int_sqrt.specs.Root.{Root, root, root_of, root_check};
 
-use answers::{I8, I16, I32, I64, Refusal};
+use answers::{Done, I8, I16, I32, I64, Refusal};
 
 // The root of n, from the table.
 pub fn u8(n: u8) -> u8
@@ -97,6 +97,17 @@ pub fn u64(mut n: u64) -> u64
 
         let denormalization_shift = normalization_shift >> 1;
         s >> denormalization_shift
+    }
+}
+
+// Whether a signed number, of this width or a narrower one, has a root: the refusal without the root.
+pub fn root_check(n: i64) -> Done
+    ensures { means_done result ≡ root_check n }
+{
+    if n < 0 {
+        Done::Refused(Refusal::NegativeRoot)
+    } else {
+        Done::Accepted
     }
 }
 

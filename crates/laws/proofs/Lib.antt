@@ -5,3 +5,5 @@ pub mod First
 pub mod Table
 pub mod Held
 pub mod Wrap
+pub mod Placed
+pub mod Lent

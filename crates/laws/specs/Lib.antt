@@ -1,2 +1,3 @@
 -- The definitions that more than one crate cites.
 pub mod First
+pub mod Placed

@@ -15,9 +15,10 @@ use Rattle.laws.proofs.Held.{held, is_held, both_held, by_bits, zero_fits, minus
 use Rattle.laws.proofs.Order.{by_order, sub_cases, pos-minus}
 use Rattle.laws.proofs.Tests.{and-false, and-true, or-false}
 use Rattle.signed.specs.Signed.{mod_z, opposite, exact, next, next_multiple}
+use Rattle.signed.specs.Accepts.{Divides}
 use Rattle.signed.proofs.ModZ.{below, mod-add}
 use Rattle.signed.proofs.Strict.{exact_fits, neg_flag}
-use Rattle.signed.proofs.Rem.{Divides, eq_z_no, some, rem_kept, rem_raised, left_held}
+use Rattle.signed.proofs.Rem.{eq_z_no, some, rem_kept, rem_raised, left_held}
 
 -- ---- −a and a modulo m: both 0, or m together
 
@@ -123,7 +124,11 @@ kept a (negsuc k) p e = rem_negated a k ∙ ap neg_ℤ (rem_kept (neg_ℤ a) (po
 
 -- ---- what `next_multiple_of` needs and gives
 
-next_value : (w : Width) (a d : ℤ) → (d ≡ pos 0 → ⊥) → next_multiple w a d ≡ exact w (next a d)
+pub next-zero : (w : Width) (a d : ℤ) → d ≡ pos 0 → next_multiple w a d ≡ refused 3
+unfolding next_multiple
+next-zero w a d e = ap (next_multiple w a) e
+
+pub next_value : (w : Width) (a d : ℤ) → (d ≡ pos 0 → ⊥) → next_multiple w a d ≡ exact w (next a d)
 unfolding next_multiple
 next_value w a d h = ap (λ t. cond t (refused 3) (exact w (next a d))) (eq_z_no d (pos 0) h)
 
@@ -133,8 +138,7 @@ by_one (negsuc n) = omega arith
 
 module _ {w : Width} {a d : ℤ} (fa : SFits w a) (fd : SFits w d) where
   pub next_by_zero : of_z w d ≡ 0 → refused 3 ≡ next_multiple w a d
-  unfolding next_multiple
-  next_by_zero e = sym (ap (next_multiple w a) (by_bits (pos 0) fd (zero_fits w) e))
+  next_by_zero e = sym (next-zero w a d (by_bits (pos 0) fd (zero_fits w) e))
 
   -- a is the answer where it is the next multiple itself
   itself : (d ≡ pos 0 → ⊥) → gap a d ≡ pos 0 → gives (held w a) ≡ next_multiple w a d

@@ -18,7 +18,9 @@ use Rattle.laws.proofs.Held.{held, is_held, both_held, by_bits, zero_fits, minus
 use Rattle.laws.proofs.Order.{by_order, sub_cases}
 use Rattle.laws.proofs.Tests.{and-false}
 use Rattle.signed.specs.Signed.{mod_z, eq_z, min_z, absolute, wrap, rem_euclid}
+use Rattle.signed.specs.Accepts.{Divides}
 use Rattle.signed.proofs.ModZ.{below}
+use Rattle.signed.proofs.Range.{min_fits}
 use Rattle.signed.proofs.Wrap.{wrap_fits, wrap_part, wrap_held}
 
 -- ---- tests of equality
@@ -32,9 +34,6 @@ eq_z_no (pos a) (pos b) h = ne_eqb a b (λ e. h (ap pos e))
 eq_z_no (pos a) (negsuc b) h = refl
 eq_z_no (negsuc a) (pos b) h = refl
 eq_z_no (negsuc a) (negsuc b) h = ne_eqb a b (λ e. h (ap negsuc e))
-
-min_fits : (w : Width) → SFits w (min_z w)
-min_fits w = record { sfits = omega (arith, pow_pos (hbits w)) }
 
 pub some : (d : ℤ) → (d ≡ pos 0 → ⊥) → 0 < nat_abs d
 some (pos n) h = by_order 0 n (λ p. p) (λ p. absurd (h (ap pos (omega arith))))
@@ -65,10 +64,6 @@ rem_raised (negsuc n) d p e =
     (λ h e. absurd (omega (arith, ltb-true 0 0 e))) e
 
 -- ---- where `%` is defined: the divisor is not 0, and not −1 at MIN
-
-pub record Divides (w : Width) (a d : ℤ) : Type 0 where
-  pub by_some : d ≡ pos 0 → ⊥
-  pub holds : a ≡ min_z w → d ≡ negsuc 0 → ⊥
 
 mag_neg : (n : ℕ) {k : ℕ} → 0 < k → n ≤ k → mag (neg_ℤ (pos n)) < k
 mag_neg zero p h = p
@@ -106,8 +101,18 @@ past_one {w} h k = record { by_some = λ e. h (ap (of_z w) e); holds = λ e f. k
 
 -- ---- the answers of `rem_euclid`
 
--- the definition's number, where neither of its refusals applies
-rem_value : (w : Width) (a d : ℤ) → Divides w a d → rem_euclid w a d ≡ gives (pos (mod_z a (nat_abs d)))
+-- the definition's refusals, and its number where neither applies
+pub rem-zero : (w : Width) (a d : ℤ) → d ≡ pos 0 → rem_euclid w a d ≡ refused 3
+unfolding rem_euclid
+rem-zero w a d e = ap (rem_euclid w a) e
+
+pub rem_min : (w : Width) (a d : ℤ) → a ≡ min_z w → d ≡ negsuc 0 → rem_euclid w a d ≡ refused 4
+unfolding rem_euclid
+rem_min w a d e f =
+    ap (rem_euclid w a) f ∙ ap (λ z. rem_euclid w z (negsuc 0)) e
+    ∙ ap (λ t. cond (t && true) (refused 4) (gives (pos (mod_z (min_z w) 1)))) (eq_z_yes (min_z w))
+
+pub rem_value : (w : Width) (a d : ℤ) → Divides w a d → rem_euclid w a d ≡ gives (pos (mod_z a (nat_abs d)))
 unfolding rem_euclid
 rem_value w a d v =
     ap (λ t. cond t (refused 3) (cond (eq_z a (min_z w) && eq_z d (negsuc 0)) (refused 4) (gives (pos (mod_z a (nat_abs d)))))) (eq_z_no d (pos 0) v.by_some)
@@ -119,14 +124,10 @@ rem_value w a d v =
 
 module _ {w : Width} {a d : ℤ} (fa : SFits w a) (fd : SFits w d) where
   pub rem_by_zero : of_z w d ≡ 0 → refused 3 ≡ rem_euclid w a d
-  unfolding rem_euclid
-  rem_by_zero e = sym (ap (rem_euclid w a) (by_bits (pos 0) fd (zero_fits w) e))
+  rem_by_zero e = sym (rem-zero w a d (by_bits (pos 0) fd (zero_fits w) e))
 
   pub rem_of_min : of_z w a ≡ of_z w (min_z w) → of_z w d ≡ of_z w (negsuc 0) → refused 4 ≡ rem_euclid w a d
-  unfolding rem_euclid
-  rem_of_min e f =
-      sym (ap (rem_euclid w a) (by_bits (negsuc 0) fd (minus_one_fits w) f) ∙ ap (λ z. rem_euclid w z (negsuc 0)) (by_bits (min_z w) fa (min_fits w) e)
-      ∙ ap (λ t. cond (t && true) (refused 4) (gives (pos (mod_z (min_z w) 1)))) (eq_z_yes (min_z w)))
+  rem_of_min e f = sym (rem_min w a d (by_bits (min_z w) fa (min_fits w) e) (by_bits (negsuc 0) fd (minus_one_fits w) f))
 
   module _ (v : Divides w a d) where
     -- the machine's remainder is one of a by d, and fits

@@ -5,15 +5,17 @@ use Prim.Native.Nat.{ℕ, zero, suc, ◌+◌, ◌-◌, ◌^◌, ◌≤◌, ◌<�
 use native.Mathlib.Nat.{mod-eq_of_lt}
 use native.Mathlib.Omega.{arith}
 use borrow.Author.Tests.{lt-ltb, le-ltb, le-leb, lt-leb, leb-false}
+use lib.Pow.{pow_pos}
 use lib.IntN.{ℤ, pos, negsuc, neg_ℤ, nat_abs, ◌+ℤ◌, ◌-ℤ◌, +ℤ_idl}
 use lib.Signed.{mag, lt_z, nat_abs-le}
 use mir.Syntax.{Width}
-use mir.Val.{bits, hbits, SFits, to_z, sel}
+use mir.Val.{bits, hbits, SFits, to_z, of_z, sel}
 use mir.ValLaws.{pow-bits, to_z_pos}
 use Rattle.answers.specs.Reply.{Reply, gives, refused}
-use Rattle.laws.proofs.Held.{held, is_held, both_held, tested, from_zero, below_zero}
+use Rattle.laws.proofs.Held.{held, is_held, both_held, by_bits, tested, from_zero, below_zero}
 use Rattle.laws.proofs.Order.{by_order, sub_cases}
-use Rattle.signed.specs.Signed.{absolute, outside, exact, wrap, Overflows}
+use Rattle.signed.specs.Signed.{min_z, absolute, outside, exact, wrap, Overflows}
+use Rattle.signed.proofs.Range.{min_fits}
 use Rattle.signed.proofs.Wrap.{wrap_fits, wrap_held}
 
 -- ---- the exact number, by whether the width holds it
@@ -55,6 +57,12 @@ pub neg_flag : (b : ℤ) → lt_z (neg_ℤ b) (pos 0) ≡ lt_z (pos 0) b
 neg_flag (pos zero) = refl
 neg_flag (pos (suc n)) = sym (lt-ltb 0 (suc n) (omega arith))
 neg_flag (negsuc n) = le-ltb (suc n) 0 (omega arith)
+
+-- −b fits where b does, but for MIN
+neg_fits : (w : Width) (b : ℤ) → SFits w b → (b ≡ min_z w → ⊥) → SFits w (neg_ℤ b)
+neg_fits w (pos zero) f n = f
+neg_fits w (pos (suc k)) f n = record { sfits = omega (arith, f.sfits) }
+neg_fits w (negsuc k) f n = by_order (suc k) (2 ^ hbits w) (λ h. record { sfits = h }) (λ h. absurd (n (ap negsuc (omega (arith, f.sfits)))))
 
 neg-abs : (b : ℤ) → nat_abs (neg_ℤ b) ≡ nat_abs b
 neg-abs (pos zero) = refl
@@ -141,6 +149,33 @@ module _ {w : Width} {a : ℤ} (fa : SFits w a) where
   negation_overflows o =
       let same : pos 0 -ℤ held w a ≡ neg_ℤ a = ap (λ z. pos 0 -ℤ z) (is_held fa) ∙ +ℤ_idl (neg_ℤ a) in
       record { wrapped = o.wrapped ∙ ap (wrap w) same; flagged = o.flagged ∙ ap (outside w) same }
+
+  -- −a, which the machine makes as 0 − a
+  negated_is : pos 0 -ℤ held w a ≡ neg_ℤ a
+  negated_is = ap (λ z. pos 0 -ℤ z) (is_held fa) ∙ +ℤ_idl (neg_ℤ a)
+
+  pub min_overflows : of_z w a ≡ of_z w (min_z w) → Overflows w (neg_ℤ a) (min_z w) true
+  min_overflows e =
+      let is : neg_ℤ a ≡ pos (2 ^ hbits w) = ap neg_ℤ (by_bits (min_z w) fa (min_fits w) e) ∙ ap pos (omega (arith, pow_pos (hbits w))) in
+      record {
+        wrapped =
+            sym (ap (wrap w) is ∙ too_high w (2 ^ hbits w) (omega arith) (omega (arith, pow-bits w, pow_pos (hbits w)))
+            ∙ ap negsuc (omega (arith, pow-bits w)));
+        flagged = sym (ap (outside w) is ∙ le-leb (2 ^ hbits w) (2 ^ hbits w) (omega arith));
+      }
+
+  module _ (n : of_z w a ≡ of_z w (min_z w) → ⊥) where
+    other_fits : SFits w (neg_ℤ a)
+    other_fits = neg_fits w a fa (λ e. n (ap (of_z w) e))
+
+    pub negation_fits : SFits w (pos 0 -ℤ held w a)
+    negation_fits = subst (SFits w) (sym negated_is) other_fits
+
+    pub negation_given : Overflows w (neg_ℤ a) (held w (pos 0 -ℤ held w a)) false
+    negation_given = record {
+      wrapped = is_held negation_fits ∙ negated_is ∙ sym (wrap_fits w (neg_ℤ a) other_fits);
+      flagged = sym (lt-leb (2 ^ hbits w) (mag (neg_ℤ a)) other_fits.sfits);
+    }
 
   pub strict_below : {m : Reply ℤ} → lt_z (held w a) (pos 0) ≡ true → m ≡ exact w (neg_ℤ (held w a)) → m ≡ exact w (absolute a)
   strict_below e h =

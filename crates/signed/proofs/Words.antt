@@ -10,9 +10,10 @@ use lib.Signed.{◌≤ℤ◌, ◌<ℤ◌, le_z_yes, lt_z_yes}
 use mir.Syntax.{Width}
 use mir.Val.{bits, hbits, SFits}
 use Rattle.signed.specs.Signed.{mod_z, min_z, wrap, next}
-use Rattle.signed.specs.Words.{Multiple, IsRemainder, IsLeast, IsGreatest, IsWrapped}
+use Rattle.signed.specs.Words.{InRange, Multiple, IsRemainder, IsLeast, IsGreatest, IsWrapped}
 use Rattle.laws.proofs.Order.{sub_cases, pos-minus}
 use Rattle.signed.proofs.ModZ.{below, mod_shift, mod_split, mod_only, mod-add}
+use Rattle.signed.proofs.Range.{fits_is}
 use Rattle.signed.proofs.Wrap.{in_range, mod_wrap, wrap_same, wrap_fits, cancel}
 
 -- ---- the order by sums
@@ -97,6 +98,9 @@ remainder_only a d (pos n) h =
     ap pos (sym (mod_only (nat_abs d) (omega arith) a q n l (sym (plus_minus a (pos n)) ∙ ap (λ z. pos n +ℤ z) e)))
 remainder_only a d (negsuc n) h = absurd h.low.le
 
+pub one_remainder : (a d r s : ℤ) → IsRemainder a d r → IsRemainder a d s → r ≡ s
+one_remainder a d r s h k = remainder_only a d r h ∙ sym (remainder_only a d s k)
+
 -- ---- the next multiple
 
 pub least_is : (a : ℤ) (m : ℕ) → 0 < m → IsLeast a (pos m) (next a (pos m))
@@ -114,6 +118,10 @@ least_is a m p = record {
       subst (λ z. (a +ℤ pos (mod_z (neg_ℤ a) m)) ≤ℤ z) (sym e) (le_more a (mod_z (neg_ℤ a) m) t (omega (arith, same, mod-le t m)));
 }
 
+pub least_has : (a d : ℤ) → pos 0 <ℤ d → IsLeast a d (next a d)
+least_has a (pos m) l = least_is a m (ltb→lt 0 m l.lt)
+least_has a (negsuc k) l = absurd l.lt
+
 pub least_only : (a d y z : ℤ) → IsLeast a d y → IsLeast a d z → y ≡ z
 least_only a d y z h k = antisymm y z (h.least z k.multiple k.reaches) (k.least y h.multiple h.reaches)
 
@@ -126,6 +134,10 @@ greatest_is a k = record {
       let same : mod_z a (suc k) ≡ t % suc k = over (suc k) (omega arith) a y t (to_abs (negsuc k) y h) e in
       subst (λ z. y ≤ℤ (z -ℤ pos (mod_z a (suc k)))) (sym e) (le_less y (mod_z a (suc k)) t (omega (arith, same, mod-le t (suc k))));
 }
+
+pub greatest_has : (a d : ℤ) → d <ℤ pos 0 → IsGreatest a d (next a d)
+greatest_has a (pos m) l = absurd (omega (arith, ltb→lt m 0 l.lt))
+greatest_has a (negsuc k) l = greatest_is a k
 
 pub greatest_only : (a d y z : ℤ) → IsGreatest a d y → IsGreatest a d z → y ≡ z
 greatest_only a d y z h k = antisymm y z (k.greatest y h.multiple h.within) (h.greatest z k.multiple k.within)
@@ -146,6 +158,9 @@ differ m p x y e =
 
 pub wrapped_is : (w : Width) (z : ℤ) → IsWrapped w z (wrap w z)
 wrapped_is w z = record { fits = in_range w z; multiple = differ (2 ^ bits w) (pow_pos (bits w)) z (wrap w z) (mod_wrap w z) }
+
+pub wrapped_in_range : (w : Width) (z : ℤ) → InRange w (wrap w z)
+wrapped_in_range w z = (fits_is w (wrap w z)).0 (in_range w z)
 
 pub wrapped_only : (w : Width) (z r : ℤ) → IsWrapped w z r → r ≡ wrap w z
 wrapped_only w z r h =

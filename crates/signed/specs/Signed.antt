@@ -20,6 +20,10 @@ eq_z (negsuc a) (negsuc b) = eqb a b
 abbrev pub min_z : Width → ℤ
 min_z w = negsuc (2 ^ hbits w - 1)
 
+-- MAX of the width: 2^(width − 1) − 1
+abbrev pub max_z : Width → ℤ
+max_z w = pos (2 ^ (bits w - 1) - 1)
+
 abbrev pub absolute : ℤ → ℤ
 absolute a = pos (nat_abs a)
 
