@@ -10,6 +10,11 @@
  * A lent slice is a pointer and then a count of words or bytes. It is the caller's to see that the pointer is aligned,
  * not NULL even where the count is 0, and reaches that many; that nothing else uses the slice during the call; and that
  * a slice which the call may write overlaps no other. A refused call changes no slice, but for `ply_record`'s answer.
+ *
+ * A lent number is a pointer to one number that the call may write, and it is set on every call; a lent array is a
+ * pointer to as many as its brackets say. The caller owes of them what it owes of a slice; they overlap no slice of the
+ * call and not each other. A stream's state is a lent array of exactly 17 bytes, set before the first call (zeros),
+ * which the call reads, and writes where it is accepted.
  */
 #ifndef PLYORCHARD_H
 #define PLYORCHARD_H
@@ -190,6 +195,17 @@ uint8_t ply_card_write(uint64_t *table, size_t table_count, size_t card, uint64_
  * that is another, the answer stays; every other refusal is written into it too.
  * `one_reply` and `answered` in records/specs/Records. */
 uint8_t ply_record(const uint8_t *asked, size_t asked_count, uint8_t *answer, size_t answer_count);
+
+/* Records that come in fragments (docs/RULES.md, Records in fragments). The state is what is kept between calls: 16 bytes,
+ * and then how many of them count; all zeros is fresh, and a call stores the next state where it is accepted. The first
+ * function takes a fragment of any length and writes the answers to the records that it completes from the front of the
+ * output. The second is the end of the input: it writes the answer with 13 if bytes are left over, and the state is then
+ * fresh. Both give the refusal, 13 for a count above 16, then 10 where the answers lack room, or 0, and set `written` to
+ * how many bytes they wrote, 0 where refused.
+ * `ToldFeed` and `ToldEnd` in stream/specs/Packed. */
+uint8_t ply_stream_feed(uint8_t state[17], const uint8_t *fragment, size_t fragment_count,
+                        uint8_t *output, size_t output_count, size_t *written);
+uint8_t ply_stream_end(uint8_t state[17], uint8_t *output, size_t output_count, size_t *written);
 
 #ifdef __cplusplus
 }

@@ -152,6 +152,47 @@ static void records(void)
     IS(value(answer), 4);
 }
 
+/* A call on a stream, what is returned, and how many bytes it says that it wrote. */
+#define WRITES(call, refusal, size) written = 77, IS(call, refusal), IS(written, size)
+
+static void streams(void)
+{
+    static const uint8_t input[18] = {0x03, [8] = 0x11, [17] = 0x54};
+    uint8_t state[17] = {0};
+    uint8_t answer[10] = {[9] = 0xA5};
+    size_t written;
+
+    WRITES(ply_stream_feed(state, input, 16, answer, 0, &written), PLY_ACCEPTED, 0);
+    IS(state[16], 16);
+    WRITES(ply_stream_feed(state, input, 0, answer, 0, &written), PLY_ACCEPTED, 0);
+    IS(state[16], 16);
+    WRITES(ply_stream_feed(state, input + 16, 2, answer, 8, &written), PLY_NO_ROOM, 0);
+    IS(state[16], 16);
+    IS(answer[8], 0);
+    WRITES(ply_stream_feed(state, input + 16, 2, answer, 10, &written), PLY_ACCEPTED, 9);
+    IS(answer[0], 0x00);
+    IS(value(answer), 4);
+    IS(answer[9], 0xA5);
+    IS(state[0], 0x54);
+    IS(state[1], 0);
+    IS(state[16], 1);
+
+    WRITES(ply_stream_end(state, answer, 8, &written), PLY_NO_ROOM, 0);
+    IS(state[16], 1);
+    WRITES(ply_stream_end(state, answer, 9, &written), PLY_ACCEPTED, 9);
+    IS(answer[0], 0xD0);
+    IS(value(answer), 0);
+    IS(state[0], 0);
+    IS(state[16], 0);
+    WRITES(ply_stream_end(state, answer, 0, &written), PLY_ACCEPTED, 0);
+
+    state[16] = 17;
+    WRITES(ply_stream_feed(state, input, 17, answer, 10, &written), PLY_WRONG_LENGTH, 0);
+    WRITES(ply_stream_end(state, answer, 10, &written), PLY_WRONG_LENGTH, 0);
+    IS(state[16], 17);
+    IS(answer[0], 0xD0);
+}
+
 int main(void)
 {
     roots_and_logs();
@@ -160,6 +201,7 @@ int main(void)
     batches();
     cards();
     records();
+    streams();
     printf("C: %u numbers compared, %u wrong\n", compared, wrong);
     return wrong != 0;
 }

@@ -9,3 +9,4 @@ pub mod logs;
 pub mod one_record;
 pub mod roots;
 pub mod signed_forms;
+pub mod streams;

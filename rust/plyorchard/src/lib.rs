@@ -4,7 +4,8 @@
 //! every input, to end, to break no rule of the language and to give the number of its definition. So no call panics and
 //! none has to be checked first: what cannot be answered is a [`Refusal`].
 //!
-//! A function has the name of its C function without the prefix `ply_` and the type.
+//! A function has the name of its C function without the prefix `ply_` and the type. The two of a stream are those of
+//! [`Stream`]; [`AnswerWriter`] is all Rust, over it.
 //!
 //! ```
 //! use plyorchard::{next_multiple_of, strict_sub, Refusal};
@@ -24,6 +25,7 @@ mod record;
 mod refusal;
 mod root;
 mod signed;
+mod stream;
 
 pub use batch::{gather_batch, scatter_batch};
 pub use bits::{gather, scatter, Bits};
@@ -40,6 +42,7 @@ pub use refusal::Refusal;
 pub use root::{isqrt, Root};
 pub use signed::{next_multiple_of, rem_euclid, strict_abs, strict_add, strict_neg, strict_sub};
 pub use signed::{unsigned_abs, wrapping_add, wrapping_neg, wrapping_sub, Signed};
+pub use stream::{AnswerWriter, Stream};
 
 /// Keeps the traits of the kernels to the types that the archive has functions for.
 mod sealed {
