@@ -8,7 +8,7 @@ ghost use Rattle.signed.specs.Signed.{absolute, opposite, exact, wrap, Overflows
 use answers::{I32, Refusal};
 
 // A result that may have wrapped, and whether it has: the Rust's pair.
-#[derive(Drop)]
+#[derive(Clone, Copy)]
 pub struct Overflowing {
     pub value: i32,
     pub overflow: bool,
