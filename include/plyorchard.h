@@ -26,7 +26,8 @@
 extern "C" {
 #endif
 
-/* Why a call is refused. Where several apply: 3 before 4; 5, 6, 7, 8, 9; 13, 11, 12, then the operation's own. */
+/* Why a call is refused. Where several apply: 3 before 4; 5, 6, 7, 8, 9; 13, 11, 12, then the operation's own; of a stream
+ * 13, 10. */
 enum ply_refusal {
     PLY_ACCEPTED = 0,
     PLY_NEGATIVE_ROOT = 1,  /* root of a negative number */
@@ -38,10 +39,10 @@ enum ply_refusal {
     PLY_EMPTY_MASK = 7,     /* table mask is 0 */
     PLY_TOO_WIDE = 8,       /* expected or new number has more bits than the mask has ones */
     PLY_DIFFERS = 9,        /* the gathered field differs from the expected number */
-    PLY_NO_ROOM = 10,       /* batch does not fit its destination */
+    PLY_NO_ROOM = 10,       /* batch, or answers to records, do not fit their destination */
     PLY_NO_OPERATION = 11,  /* record: operation not listed, or a width it does not take */
     PLY_BAD_OPERAND = 12,   /* record: operand has bits above its width, or an unused operand is not 0 */
-    PLY_WRONG_LENGTH = 13   /* record or answer of wrong length */
+    PLY_WRONG_LENGTH = 13   /* record or answer of wrong length, a stream's count > 16 */
 };
 
 /* The square root: the s with s*s <= n < (s+1)*(s+1). Never refused. `root` in int_sqrt/specs/Root. */

@@ -1,5 +1,4 @@
 -- The laws that the proofs cite.
-pub mod Lent
 pub mod Records
 pub mod Whole
 pub mod Parts

@@ -6,7 +6,7 @@ use native.Mathlib.Omega.{arith}
 use borrow.Rule.Slice.PartMut.{mid_of, put_mid}
 use lib.ListN.{length, take, drop, replicate, length-append, length-drop}
 use lib.Seq.{drop_at, take_at, drop-drop, take-add, take-append-add, drop-append-add, length-take-le}
-use Rattle.stream.proofs.Lent.{mid_tail, put_tail, drop-replicate}
+use Rattle.laws.proofs.Lent.{mid_tail, put_tail, drop-replicate}
 use Rattle.answers.specs.declared.Done.{Done}
 use Rattle.answers.specs.declared.U64.{U64}
 use Rattle.records.specs.Records.{reply_to, answer_bytes, answers, One, Many}
