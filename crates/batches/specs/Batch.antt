@@ -1,15 +1,11 @@
 -- Batches: every word of a source under one function, into a destination from a place on. The function is gather or scatter under a mask.
 use Rattle.std.specs.Prelude.{◌≡◌, List, [], ◌∷◌, ◌++◌, map, ℕ, ◌+◌, ◌-◌, ◌≤◌, ◌<◌, ltb, length, get_or, take, drop}
 use Rattle.answers.specs.Reply.{Reply, gives, Row, row, unless, leaves}
-use Rattle.answers.specs.Answers.{means_done}
-use Rattle.answers.specs.declared.Done.{Done}
-use Rattle.int_bits.specs.Gather.{gather, scatter}
-use Rattle.batches.specs.declared.Direction.{Direction}
+use Rattle.answers.specs.Answers.{Answer, means}
 
--- a word moved under a mask, by the direction
-abbrev pub moved : Direction → ℕ → ℕ → ℕ
-moved Direction.Gather mask x = gather 64 x mask
-moved Direction.Scatter mask x = scatter 64 x mask
+-- a closure computes f if what it may give for x, as `post` says, is f x alone
+abbrev pub Computes : (ℕ → ℕ → Type 0) → (ℕ → ℕ) → Type 0
+Computes post f = (x y : ℕ) → post x y → y ≡ f x
 
 -- refused where the place lies past the destination's end, or more words come than remain
 abbrev pub room_rows : ℕ → ℕ → ℕ → List Row
@@ -27,12 +23,12 @@ abbrev pub batched : (ℕ → ℕ) → List ℕ → List ℕ → ℕ → List �
 batched f source destination place = leaves (room_reply (length source) (length destination) place) (placed (map f source) destination place) destination
 
 -- the promise of `room_check`: its answer r for so many words, into a destination of a size
-pub record ChecksRoom (count size place : ℕ) (r : Done) : Type 0 where
-  pub replies : means_done r ≡ room_reply count size place
+pub record ChecksRoom (count size place : ℕ) (r : Answer Unit) : Type 0 where
+  pub replies : means r ≡ room_reply count size place
 
 -- the promise of a batch over f: its answer r, and the destination that it leaves
-pub record Batches (f : ℕ → ℕ) (source destination : List ℕ) (place : ℕ) (r : Done) (destination' : List ℕ) : Type 0 where
-  pub replies : means_done r ≡ room_reply (length source) (length destination) place
+pub record Batches (f : ℕ → ℕ) (source destination : List ℕ) (place : ℕ) (r : Answer Unit) (destination' : List ℕ) : Type 0 where
+  pub replies : means r ≡ room_reply (length source) (length destination) place
   pub leaves_destination : destination' ≡ batched f source destination place
 
 -- ---- in plain facts

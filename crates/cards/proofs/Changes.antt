@@ -6,8 +6,8 @@ use lib.Count.{ones-ones}
 use lib.ListN.{length, length-set}
 use lib.Seq.{get_or-set_same, get_or-set_other}
 use borrow.Author.Tests.{lt-leb}
-use Rattle.answers.specs.declared.Done.{Done}
-use Rattle.answers.specs.declared.U64.{U64}
+use Rattle.std.specs.Prelude.{Ok}
+use Rattle.answers.specs.Answers.{Answer}
 use Rattle.int_bits.specs.Stored.{stored}
 use Rattle.int_bits.proofs.Laws.{gather_ones}
 use Rattle.int_bits.proofs.Stored.{gather-stored, stored_off}
@@ -17,7 +17,7 @@ use Rattle.cards.proofs.Accepts.{write_if, write_only_if, accepted_updates, read
 
 -- a mask has 64 bits
 module _ {card mask : ℕ} (fits : mask < 2 ^ 64) {t : Table} where
-  module _ {expected : Seen} {new : ℕ} {t' : Table} (p : Writes t card mask expected new Done.Accepted t') where
+  module _ {expected : Seen} {new : ℕ} {t' : Table} (p : Writes t card mask expected new (Ok tt) t') where
     -- an accepted write changes the masked bits alone
     pub changes : Changed t card mask new t'
     unfolding updated
@@ -35,14 +35,14 @@ module _ {card mask : ℕ} (fits : mask < 2 ^ 64) {t : Table} where
         }
 
     -- a read of the same field then gives the new number
-    pub then_read : {r : U64} → Reads t' card mask r → r ≡ U64.Number new
+    pub then_read : {r : Answer ℕ} → Reads t' card mask r → r ≡ Ok new
     then_read q =
         let ok = (write_only_if p).readable in
         let n : length t' ≡ length t = changes.same_length in
-        read_if (record { short = rw n ok.short; there = rw n ok.there; masked = ok.masked }) q ∙ ap U64.Number changes.new_number
+        read_if (record { short = rw n ok.short; there = rw n ok.there; masked = ok.masked }) q ∙ ap Ok changes.new_number
 
   -- the new number may equal the expected one
-  pub same_number : {r : Done} {t' : Table} → Readable t card mask → Writes t card mask (seen t card mask) (seen t card mask) r t' → r ≡ Done.Accepted
+  pub same_number : {r : Answer Unit} {t' : Table} → Readable t card mask → Writes t card mask (seen t card mask) (seen t card mask) r t' → r ≡ Ok tt
   same_number ok p =
       let narrow = gather_ones 64 mask fits (field_word t card) in
       write_if (record { readable = ok; narrow_expected = narrow; narrow_new = narrow; unchanged = refl }) p

@@ -1,22 +1,15 @@
 -- A number has a bit at or above k exactly where it is 2^k or more; no number of 64 bits has one above 63.
-use borrow.Author.Tests.{leb-true, leb-false, lt-leb, eq-eqb, ne_eqb}
-use Rattle.std.proofs.Common.{◌≡◌, refl, sym, ap, Bool, true, false, ℕ, ◌^◌, ◌/◌, ◌*◌, ◌≤◌, ◌<◌, arith}
+use borrow.Author.Tests.{lt-leb}
+use Rattle.std.proofs.Common.{◌≡◌, sym, false, ℕ, ◌^◌, ◌/◌, ◌*◌, ◌≤◌, ◌<◌, ◌↔◌, arith}
 use mathlib.Core.Bool.{not}
-use native.Mathlib.Nat.{le-div_iff_mul-le, div-eq_of_lt}
+use native.Mathlib.Nat.{le-div_iff_mul-le}
 use lib.Count.{ones}
 use lib.Dec.{leb, eqb}
 use lib.Pow.{pow_mono, pow_pos}
 use Rattle.cards.specs.Table.{too_wide}
 
 high_bits : (x k : ℕ) → not (eqb (x / 2 ^ k) 0) ≡ leb (2 ^ k) x
-high_bits x k = go (leb (2 ^ k) x) refl
-  where
-    go : (b : Bool) → leb (2 ^ k) x ≡ b → not (eqb (x / 2 ^ k) 0) ≡ b
-    go true e =
-        let h : 1 * 2 ^ k ≤ x = omega (arith, leb-true (2 ^ k) x e) in
-        let l : 1 ≤ x / 2 ^ k = (le-div_iff_mul-le (pow_pos k)).1 h in
-        ap not (ne_eqb (x / 2 ^ k) 0 (λ z. omega arith))
-    go false e = ap not (eq-eqb (x / 2 ^ k) 0 (div-eq_of_lt (leb-false _ _ e)))
+high_bits x k = let high : (1 ≤ x / 2 ^ k) ↔ (1 * 2 ^ k ≤ x) = le-div_iff_mul-le (pow_pos k) in grind (arith, high)
 
 pub by_high_bits : (number mask : ℕ) → not (eqb (number / 2 ^ ones mask) 0) ≡ too_wide number mask
 by_high_bits number mask = high_bits number (ones mask)

@@ -1,10 +1,8 @@
--- The guarded card table: what a read and a write reply, what a write leaves, and the promises of `read` and `write`.
+-- The guarded card table: what a read and a write reply, what a write leaves, and the promises of a field's methods.
 use Rattle.std.specs.Prelude.{◌≡◌, Bool, not, List, [], ◌∷◌, ◌++◌, ℕ, ◌^◌, leb, ltb, eqb, length, get_or, set}
 use Rattle.std.specs.Int.Count.{ones}
 use Rattle.answers.specs.Reply.{Reply, gives, Row, row, unless, leaves}
-use Rattle.answers.specs.Answers.{means_done, means_u64}
-use Rattle.answers.specs.declared.Done.{Done}
-use Rattle.answers.specs.declared.U64.{U64}
+use Rattle.answers.specs.Answers.{Answer, means}
 use Rattle.int_bits.specs.Gather.{gather}
 use Rattle.int_bits.specs.Stored.{stored}
 
@@ -63,23 +61,23 @@ write_reply t card mask expected new = unless (write_rows t card mask expected n
 abbrev pub written : Table → ℕ → ℕ → Seen → ℕ → Table
 written t card mask expected new = leaves (write_reply t card mask expected new) (updated t card mask new) t
 
--- the promise of `card_check`: its answer r on the table t
-pub record ChecksCard (t : Table) (card mask : ℕ) (r : Done) : Type 0 where
-  pub replies : means_done r ≡ unless (card_rows t card mask) (gives tt)
+-- the promise of `Field::check`: its answer r on the table t
+pub record ChecksCard (t : Table) (card mask : ℕ) (r : Answer Unit) : Type 0 where
+  pub replies : means r ≡ unless (card_rows t card mask) (gives tt)
 
--- the promise of `guard_check`
-pub record ChecksGuard (t : Table) (card mask : ℕ) (expected : Seen) (new : ℕ) (r : Done) : Type 0 where
-  pub replies : means_done r ≡ unless (guard_rows t card mask expected new) (gives tt)
+-- the promise of `Field::guard_check`
+pub record ChecksGuard (t : Table) (card mask : ℕ) (expected : Seen) (new : ℕ) (r : Answer Unit) : Type 0 where
+  pub replies : means r ≡ unless (guard_rows t card mask expected new) (gives tt)
 
--- the promise of `write_check`
-pub record ChecksWrite (t : Table) (card mask : ℕ) (expected : Seen) (new : ℕ) (r : Done) : Type 0 where
-  pub replies : means_done r ≡ write_reply t card mask expected new
+-- the promise of `Field::write_check`
+pub record ChecksWrite (t : Table) (card mask : ℕ) (expected : Seen) (new : ℕ) (r : Answer Unit) : Type 0 where
+  pub replies : means r ≡ write_reply t card mask expected new
 
--- the promise of `read`
-pub record Reads (t : Table) (card mask : ℕ) (r : U64) : Type 0 where
-  pub replies : means_u64 r ≡ read_reply t card mask
+-- the promise of `Field::read`
+pub record Reads (t : Table) (card mask : ℕ) (r : Answer ℕ) : Type 0 where
+  pub replies : means r ≡ read_reply t card mask
 
--- the promise of `write`: its answer r on the table t, and the table t' that it leaves
-pub record Writes (t : Table) (card mask : ℕ) (expected : Seen) (new : ℕ) (r : Done) (t' : Table) : Type 0 where
-  pub replies : means_done r ≡ write_reply t card mask expected new
+-- the promise of `Field::write`: its answer r on the table t, and the table t' that it leaves
+pub record Writes (t : Table) (card mask : ℕ) (expected : Seen) (new : ℕ) (r : Answer Unit) (t' : Table) : Type 0 where
+  pub replies : means r ≡ write_reply t card mask expected new
   pub leaves_table : t' ≡ written t card mask expected new

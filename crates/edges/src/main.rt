@@ -2,14 +2,10 @@
 // of its answers are right and how many are wrong.
 #![tactic(auto)]
 
-mod at_i16;
-mod at_i32;
-mod at_i64;
-mod at_i8;
 mod batch;
 mod entry;
-mod names;
-mod numbers;
+mod forms;
+mod kind;
 mod output;
 mod replay;
 mod rows;
@@ -23,26 +19,28 @@ use output::Output;
 use std::io;
 use std::io::Read;
 
-// Reads until the buffer is full or the input ends, and says how many bytes it read. A read that fails ends the input.
-fn read_full(reader: &mut impl Read, buffer: &mut [u8]) -> usize
-    ensures { result ≤ length buffer.new }
+// How many bytes of the input are read at most.
+const MOST: usize = 262_144;
+
+// Reads until the buffer is full or the input ends, and gives what it read. A read that fails ends the input.
+fn read_full<'a>(reader: &mut impl Read, buffer: &'a mut [u8]) -> &'a [u8]
+    ensures { length result.now ≤ length buffer.old }
 {
     let mut n = 0;
     while n < buffer.len() {
         match reader.read(&mut buffer[n..]) {
-            Ok(0) => return n,
+            Ok(0) | Err(_) => break,
             Ok(more) => n += more,
-            Err(_) => return n,
         }
     }
-    n
+    &buffer[..n]
 }
 
 fn main(rt: HostRuntime) -> io::Result<()> {
     let mut output = Output::new(rt.stdout());
     rows::write(&mut output);
-    let mut list = [0u8; 262_144];
-    let n = read_full(&mut rt.stdin(), &mut list);
-    replay::write(&mut output, &list[..n]);
+    let mut buffer = [0u8; MOST];
+    let list = read_full(&mut rt.stdin(), &mut buffer);
+    replay::write(&mut output, list);
     output.end()
 }

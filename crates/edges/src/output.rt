@@ -1,43 +1,41 @@
-// Standard output, as lines are written on it.
-use std::io;
+// Standard output, as `write!` writes on it.
+use std::fmt::Display;
 use std::io::Write;
+use std::{fmt, io};
 
 // A write that fails is kept, the first one, and the writes after it are tried all the same.
 #[derive(Drop)]
 pub struct Output {
     stdout: io::Stdout,
-    failed: Option<io::Error>,
+    outcome: io::Result<()>,
+}
+
+impl fmt::Write for Output {
+    // It answers no failure, so that the rest of a text is tried too.
+    fn write_str(&mut self, text: &str) -> fmt::Result {
+        let written = self.stdout.write_all(text.as_bytes());
+        if self.outcome.is_ok() {
+            self.outcome = written;
+        }
+        Ok(())
+    }
 }
 
 impl Output {
     pub fn new(stdout: io::Stdout) -> Self {
         Output {
             stdout,
-            failed: None,
+            outcome: Ok(()),
         }
     }
 
-    pub fn write_all(&mut self, text: &[u8]) {
-        let written = self.stdout.write_all(text);
-        self.keep(written);
-    }
-
-    pub fn print_decimal(&mut self, n: u64) {
-        let written = write!(self.stdout, "{n}");
-        self.keep(written);
+    // What `write!` calls.
+    pub fn write_fmt<D: Display + Drop>(&mut self, text: D) {
+        let _ = fmt::Write::write(self, text);
     }
 
     // Whether every write could be done.
     pub fn end(self) -> io::Result<()> {
-        match self.failed {
-            Some(e) => Err(e),
-            None => Ok(()),
-        }
-    }
-
-    fn keep(&mut self, written: io::Result<()>) {
-        if self.failed.is_none() {
-            self.failed = written.err();
-        }
+        self.outcome
     }
 }

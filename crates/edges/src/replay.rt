@@ -1,74 +1,61 @@
 // The list of right answers, replayed: the entries of each kind stand together, in the order of the kinds.
-ghost use Rattle.std.specs.Prelude.{◌+◌, ◌≤◌, length};
+ghost use Rattle.std.specs.Prelude.{◌≤◌, length};
 
+use crate::entry::Entry;
+use crate::kind::Kind;
 use crate::output::Output;
 use crate::tally::Tally;
-use crate::{batch, entry, names, numbers, table};
+use crate::{batch, forms, table};
 
-// Whether a call of a kind gives the refusal, and the answer among the words.
-fn is_right(kind: u8, refusal: u8, words: &[u8]) -> bool {
-    match kind {
-        0..=32 => numbers::is_right(kind, refusal, words),
-        33 | 34 => batch::is_right(kind, refusal, words),
-        35 => table::is_read_right(refusal, words),
-        _ => table::is_write_right(refusal, words),
+// Whether an entry's call gives the refusal, and the answer among the words. The words of a form of numbers: value, a, b.
+fn is_right(entry: &Entry) -> bool {
+    match entry.kind {
+        Kind::Signed(form, width) => entry.has_answer(forms::call(
+            form,
+            width,
+            entry.word(1),
+            entry.word(2),
+        )),
+        Kind::DigitCount => entry.has_answer(int_log10::digit_count(entry.word(1)).map(u64::from)),
+        Kind::GatherBatch => batch::is_right(entry, batches::gather_batch),
+        Kind::ScatterBatch => batch::is_right(entry, batches::scatter_batch),
+        Kind::CardRead => table::is_read_right(entry),
+        Kind::CardWrite => table::is_write_right(entry),
     }
 }
 
-// The size of the entry of a kind that stands at a place, or 0 where none does.
-fn size_at(list: &[u8], at: usize, kind: u8) -> usize
-    requires { at ≤ length list.now }
-    ensures { at + result ≤ length list.now }
+// Replays the entries of a kind at the front of a list, writes the kind's line, and gives the rest of the list.
+fn one_kind<'a>(output: &mut Output, list: &'a [u8], kind: Kind) -> &'a [u8]
+    ensures { length result.now ≤ length list.now }
 {
-    if at == list.len() {
-        return 0;
+    let mut tally = Tally::default();
+    let mut rest = list;
+    while let Some((entry, after)) = Entry::split_first(rest) {
+        if entry.kind != kind {
+            break;
+        }
+        tally.count(is_right(&entry));
+        rest = after;
     }
-    if list[at] != kind {
-        return 0;
-    }
-    let size = entry::size(kind);
-    if size > list.len() - at {
-        return 0;
-    }
-    size
+    writeln!(output, "{kind}: {tally}");
+    rest
 }
 
-// Replays the entries of a kind from a place on, writes the kind's line, and gives the place after them.
-fn one_kind(output: &mut Output, list: &[u8], from: usize, kind: u8) -> usize
-    requires { from ≤ length list.now }
-    ensures { result ≤ length list.now }
+// Replays the entries of every kind, in the order of the kinds' numbers, and gives the rest of the list.
+fn all_kinds<'a>(output: &mut Output, list: &'a [u8]) -> &'a [u8]
+    ensures { length result.now ≤ length list.now }
 {
-    let mut tally = Tally::new();
-    let mut at = from;
-    let mut size = size_at(list, at, kind);
-    while size >= 2 {
-        let refusal = list[at + 1];
-        let start = at + 2;
-        let end = at + size;
-        tally = tally.count(is_right(kind, refusal, &list[start..end]));
-        at = end;
-        size = size_at(list, at, kind);
+    let mut rest = list;
+    for number in 0..=u8::MAX {
+        if let Ok(kind) = Kind::try_from(number) {
+            rest = one_kind(output, rest, kind);
+        }
     }
-    names::write(output, kind);
-    tally.write(output);
-    at
-}
-
-// Replays the entries of every kind, and gives the place after them.
-fn all_kinds(output: &mut Output, list: &[u8]) -> usize
-    ensures { result ≤ length list.now }
-{
-    let mut at = 0;
-    for kind in 0..37u8 {
-        at = one_kind(output, list, at, kind);
-    }
-    at
+    rest
 }
 
 // Replays the list, and says how much of it is left over: what is no entry, or stands out of order.
 pub fn write(output: &mut Output, list: &[u8]) {
-    let at = all_kinds(output, list);
-    output.write_all(b"left over: ");
-    output.print_decimal((list.len() - at) as u64);
-    output.write_all(b" bytes\n");
+    let left_over = all_kinds(output, list).len();
+    writeln!(output, "left over: {left_over} bytes");
 }

@@ -1,46 +1,43 @@
-// How many answers are right and how many are wrong, and the line that says so.
-ghost use Rattle.std.specs.Prelude.{◌≡◌, ◌+◌, ◌^◌, ◌<◌};
+// How many answers are right and how many are wrong.
+ghost use Rattle.std.specs.Prelude.{◌≡◌, ◌+◌, ◌^◌, ◌<◌, count_by, length};
 ghost use Rattle.edges.specs.Tally.{Counted};
 
-use crate::output::Output;
+use std::fmt;
 
-#[derive(Drop)]
+#[derive(Clone, Copy, Default)]
 pub struct Tally {
     pub right: u64,
     pub wrong: u64,
 }
 
 impl Tally {
-    pub fn new() -> Self
-        ensures { result.right + result.wrong ≡ 0 }
+    // The tally of answers of which it is known whether they are right.
+    pub fn of(known: &[bool]) -> Self
+        ensures right { result.right ≡ count_by (λ is_right. is_right) known.now }
+        ensures all { result.right + result.wrong ≡ length known.now }
     {
-        Tally { right: 0, wrong: 0 }
+        let mut tally = Tally::default();
+        for is_right in known {
+            tally.count(*is_right);
+        }
+        tally
     }
 
     // One answer more, a right one or a wrong one.
-    pub fn count(self, ok: bool) -> Self
-        requires { self.right + self.wrong < 2 ^ 63 }
-        ensures { Counted self ok result }
+    pub fn count(&mut self, is_right: bool)
+        requires { self.old.right + self.old.wrong < 2 ^ 63 }
+        ensures { Counted self.old is_right self.new }
     {
-        if ok {
-            Tally {
-                right: self.right + 1,
-                wrong: self.wrong,
-            }
+        if is_right {
+            self.right += 1;
         } else {
-            Tally {
-                right: self.right,
-                wrong: self.wrong + 1,
-            }
+            self.wrong += 1;
         }
     }
+}
 
-    // The rest of a line that begins with a name.
-    pub fn write(self, output: &mut Output) {
-        output.write_all(b": ");
-        output.print_decimal(self.right);
-        output.write_all(b" right, ");
-        output.print_decimal(self.wrong);
-        output.write_all(b" wrong\n");
+impl fmt::Display for Tally {
+    fn fmt<W: fmt::Write>(&self, f: &mut fmt::Formatter<W>) -> fmt::Result {
+        write!(f, "{} right, {} wrong", self.right, self.wrong)
     }
 }

@@ -14,7 +14,7 @@ pub extern "C" fn ply_gather_batch(
     ensures returns { result ≡ refusal_of (room_reply (length source.now) (length destination.old) place) }
     ensures leaves { destination.new ≡ batched (λ x. gather 64 x mask) source.now destination.old place }
 {
-    batches::gather_batch(source, mask, destination, place).refusal()
+    answers::refusal_number(batches::gather_batch(source, mask, destination, place))
 }
 
 #[unsafe(no_mangle)]
@@ -27,5 +27,5 @@ pub extern "C" fn ply_scatter_batch(
     ensures returns { result ≡ refusal_of (room_reply (length source.now) (length destination.old) place) }
     ensures leaves { destination.new ≡ batched (λ x. scatter 64 x mask) source.now destination.old place }
 {
-    batches::scatter_batch(source, mask, destination, place).refusal()
+    answers::refusal_number(batches::scatter_batch(source, mask, destination, place))
 }

@@ -8,5 +8,5 @@ pub extern "C" fn ply_record(asked: &[u8], answer: &mut [u8]) -> u8
     ensures returns { result ≡ refusal_of (one_reply asked.now answer.old) }
     ensures leaves { answer.new ≡ answered asked.now answer.old }
 {
-    records::one(asked, answer).refusal()
+    answers::refusal_number(records::one(asked, answer))
 }

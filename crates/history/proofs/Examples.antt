@@ -4,8 +4,7 @@ use mathlib.Core.Path.{refl}
 use mathlib.Core.List.{List, [], ◌∷◌}
 use Prim.Native.Nat.{ℕ, ◌+◌, ◌-◌}
 use lib.Count.{ones}
-use Rattle.answers.specs.declared.Done.{Done}
-use Rattle.answers.specs.declared.U64.{U64}
+use Rattle.std.specs.Prelude.{Ok, Err}
 use Rattle.answers.specs.declared.Refusal.{Refusal}
 use Rattle.int_bits.specs.Gather.{gather, scatter}
 use Rattle.int_bits.specs.Stored.{stored}
@@ -25,10 +24,10 @@ add mask amount = record { card = 0; mask = mask; next = λ n. n + amount }
 
 abbrev tills : List Call
 tills =
-    reads 0 0xff0 (U64.Number 50)
-    ∷ reads 0 0xff0 (U64.Number 50)
-    ∷ writes 0 0xff0 50 0 Done.Accepted
-    ∷ writes 0 0xff0 50 0 (Done.Refused Refusal.Differs)
+    reads 0 0xff0 (Ok 50)
+    ∷ reads 0 0xff0 (Ok 50)
+    ∷ writes 0 0xff0 50 0 (Ok tt)
+    ∷ writes 0 0xff0 50 0 (Err Refusal.Differs)
     ∷ []
 
 abbrev paid : List Holding
@@ -37,8 +36,8 @@ paid = holds (take 0xff0 50) 50 ∷ []
 tills_own : Interleaved [] tills paid
 tills_own =
     start (start
-    (finish [] (holds (take 0xff0 50) 50 ∷ []) (take 0xff0 50) 50 Done.Accepted plainly
-    (finish [] [] (take 0xff0 50) 50 (Done.Refused Refusal.Differs) plainly stop)))
+    (finish [] (holds (take 0xff0 50) 50 ∷ []) (take 0xff0 50) 50 (Ok tt) plainly
+    (finish [] [] (take 0xff0 50) 50 (Err Refusal.Differs) plainly stop)))
 
 -- 50 is 32 in hex
 tills_answered : History (0xf325 ∷ []) tills (0xf005 ∷ [])
@@ -56,12 +55,12 @@ paid_once = demand_3 (0xf325 ∷ []) tills (0xf005 ∷ []) paid tills_answered t
 
 abbrev back_at_50 : List Call
 back_at_50 =
-    reads 0 0xff0 (U64.Number 50)
-    ∷ reads 0 0xff0 (U64.Number 50)
-    ∷ writes 0 0xff0 50 20 Done.Accepted
-    ∷ reads 0 0xff0 (U64.Number 20)
-    ∷ writes 0 0xff0 20 50 Done.Accepted
-    ∷ writes 0 0xff0 50 0 Done.Accepted
+    reads 0 0xff0 (Ok 50)
+    ∷ reads 0 0xff0 (Ok 50)
+    ∷ writes 0 0xff0 50 20 (Ok tt)
+    ∷ reads 0 0xff0 (Ok 20)
+    ∷ writes 0 0xff0 20 50 (Ok tt)
+    ∷ writes 0 0xff0 50 0 (Ok tt)
     ∷ []
 
 abbrev three : List Holding
@@ -70,10 +69,10 @@ three = holds (take 0xff0 30) 50 ∷ holds (add 0xff0 30) 20 ∷ holds (take 0xf
 back_own : Interleaved [] back_at_50 three
 back_own =
     start (start
-    (finish [] (holds (take 0xff0 50) 50 ∷ []) (take 0xff0 30) 50 Done.Accepted plainly
+    (finish [] (holds (take 0xff0 50) 50 ∷ []) (take 0xff0 30) 50 (Ok tt) plainly
     (start
-    (finish [] (holds (take 0xff0 50) 50 ∷ []) (add 0xff0 30) 20 Done.Accepted plainly
-    (finish [] [] (take 0xff0 50) 50 Done.Accepted plainly stop)))))
+    (finish [] (holds (take 0xff0 50) 50 ∷ []) (add 0xff0 30) 20 (Ok tt) plainly
+    (finish [] [] (take 0xff0 50) 50 (Ok tt) plainly stop)))))
 
 back_answered : History (0xf325 ∷ []) back_at_50 (0xf005 ∷ [])
 unfolding read_reply write_reply card_rows guard_rows updated stored gather scatter ones
@@ -93,13 +92,13 @@ late_till = demand_3 (0xf325 ∷ []) back_at_50 (0xf005 ∷ []) three back_answe
 
 abbrev overlap : List Call
 overlap =
-    reads 0 0xff0 (U64.Number 0x32)
-    ∷ reads 0 0 (U64.Refused Refusal.EmptyMask)
-    ∷ reads 0 0x0ff (U64.Number 0x25)
-    ∷ writes 0 0x0ff 0x25 0x35 Done.Accepted
-    ∷ reads 1 0xff0 (U64.Number 0)
-    ∷ writes 0 0xff0 0x32 0 (Done.Refused Refusal.Differs)
-    ∷ reads 0 0xff0 (U64.Number 0x33)
+    reads 0 0xff0 (Ok 0x32)
+    ∷ reads 0 0 (Err Refusal.EmptyMask)
+    ∷ reads 0 0x0ff (Ok 0x25)
+    ∷ writes 0 0x0ff 0x25 0x35 (Ok tt)
+    ∷ reads 1 0xff0 (Ok 0)
+    ∷ writes 0 0xff0 0x32 0 (Err Refusal.Differs)
+    ∷ reads 0 0xff0 (Ok 0x33)
     ∷ []
 
 abbrev raised : List Holding
@@ -108,9 +107,9 @@ raised = holds (add 0x0ff 0x10) 0x25 ∷ []
 overlap_own : Interleaved [] overlap raised
 overlap_own =
     start (look (start
-    (finish [] (holds (take 0xff0 50) 0x32 ∷ []) (add 0x0ff 0x10) 0x25 Done.Accepted plainly
+    (finish [] (holds (take 0xff0 50) 0x32 ∷ []) (add 0x0ff 0x10) 0x25 (Ok tt) plainly
     (look
-    (finish [] [] (take 0xff0 50) 0x32 (Done.Refused Refusal.Differs) plainly
+    (finish [] [] (take 0xff0 50) 0x32 (Err Refusal.Differs) plainly
     (start {r = take 0xff0 1} stop))))))
 
 overlap_answered : History (0xf325 ∷ 0 ∷ []) overlap (0xf335 ∷ 0 ∷ [])

@@ -4,9 +4,9 @@ use mathlib.Core.Path.{◌≡◌, refl}
 use mathlib.Core.List.{List, []}
 use Prim.Native.Nat.{ℕ}
 use native.Mathlib.Omega.{arith}
+use Rattle.std.specs.Prelude.{Ok, Err}
+use Rattle.answers.specs.Answers.{Answer}
 use Rattle.answers.specs.declared.Refusal.{Refusal}
-use Rattle.answers.specs.declared.Done.{Done}
-use Rattle.answers.specs.declared.U64.{U64}
 use Rattle.cards.specs.Table.{Table, Seen, Reads}
 use Rattle.cards.proofs.Once.{one_read}
 use Rattle.history.specs.History.{Call, History, none, after, reading}
@@ -22,23 +22,23 @@ again : {waiting done : List Holding} {calls : List Call} {t t' : Table} → Int
 again stop none = record { calls = []; runs = nobody; leads = none }
 again (look i) (after (reading r) h) = again i h
 again (start i) (after (reading r) h) = again i h
-again (finish before past r v Done.Accepted own i) (after s h) =
+again (finish before past r v (Ok tt) own i) (after s h) =
     let more = again i h in
-    record { calls = _; runs = redeems Done.Accepted own more.runs; leads = after (reading (reads_again r (does own s))) (after s more.leads) }
-again (finish before past r v (Done.Refused why) own i) (after s h) = again i (from (refused_stays r (does own s)) h)
+    record { calls = _; runs = redeems (Ok tt) own more.runs; leads = after (reading (reads_again r (does own s))) (after s more.leads) }
+again (finish before past r v (Err why) own i) (after s h) = again i (from (refused_stays r (does own s)) h)
 
 -- what a read gives leaves no choice
-one_number : {t : Table} {card mask : ℕ} {u v : Seen} → Reads t card mask (U64.Number u) → Reads t card mask (U64.Number v) → v ≡ u
+one_number : {t : Table} {card mask : ℕ} {u v : Seen} → Reads t card mask (Ok u) → Reads t card mask (Ok v) → v ≡ u
 one_number p q = let e = one_read p q in cc
 
-not_both : {t : Table} {card mask : ℕ} {v : Seen} {why : Refusal} → Reads t card mask (U64.Number v) → Reads t card mask (U64.Refused why) → ⊥
+not_both : {t : Table} {card mask : ℕ} {v : Seen} {why : Refusal} → Reads t card mask (Ok v) → Reads t card mask (Err why) → ⊥
 not_both p q = let e = one_read p q in let z : ◌≡◌ {A = ℕ} 0 1 = cc in omega arith
 
 -- after equal reads, the writes are answered alike and leave the same table
-one_redeems : (r : Redemption) {u v : Seen} {a b : Done} {t t₁ t₂ : Table} → v ≡ u → Does r u a t t₁ → Does r v b t t₂ → (b ≡ a) × (t₂ ≡ t₁)
+one_redeems : (r : Redemption) {u v : Seen} {a b : Answer Unit} {t t₁ t₂ : Table} → v ≡ u → Does r u a t t₁ → Does r v b t t₂ → (b ≡ a) × (t₂ ≡ t₁)
 one_redeems r e d d₂ = one_does r d (rw e at d₂)
 
-joined : (r : Redemption) {u v : Seen} {a b : Done} {done done₂ : List Holding} {t t₂ : Table} → v ≡ u → b ≡ a → (done₂ ≡ done) × (t₂ ≡ t) →
+joined : (r : Redemption) {u v : Seen} {a b : Answer Unit} {done done₂ : List Holding} {t t₂ : Table} → v ≡ u → b ≡ a → (done₂ ≡ done) × (t₂ ≡ t) →
     (taken b (holds r v) done₂ ≡ taken a (holds r u) done) × (t₂ ≡ t)
 joined r e f more = (rw (e, f, more.0), more.1)
 

@@ -1,18 +1,17 @@
 -- Histories of a card table: calls that come one at a time, with their answers, each of which keeps the promise that its function ensures.
 use Rattle.std.specs.Prelude.{List, [], ◌∷◌, ℕ}
-use Rattle.answers.specs.declared.Done.{Done}
-use Rattle.answers.specs.declared.U64.{U64}
+use Rattle.answers.specs.Answers.{Answer}
 use Rattle.cards.specs.Table.{Table, Seen, Reads, Writes}
 
 -- a call that was made: its arguments and its answer
 pub data Call : Type 0 where
-  reads : (card mask : ℕ) → U64 → Call
-  writes : (card mask : ℕ) (expected : Seen) (new : ℕ) → Done → Call
+  reads : (card mask : ℕ) → Answer ℕ → Call
+  writes : (card mask : ℕ) (expected : Seen) (new : ℕ) → Answer Unit → Call
 
 -- `Step t call t'`: made on the table t, the call keeps its function's promise and leaves t'; a read is lent the table as `&`, so it stays
 pub data Step : Table → Call → Table → Type 0 where
-  reading : {t : Table} {card mask : ℕ} {a : U64} → Reads t card mask a → Step t (reads card mask a) t
-  writing : {t t' : Table} {card mask : ℕ} {expected : Seen} {new : ℕ} {a : Done} →
+  reading : {t : Table} {card mask : ℕ} {a : Answer ℕ} → Reads t card mask a → Step t (reads card mask a) t
+  writing : {t t' : Table} {card mask : ℕ} {expected : Seen} {new : ℕ} {a : Answer Unit} →
       Writes t card mask expected new a t' → Step t (writes card mask expected new a) t'
 
 -- `History t calls t'`: the calls lead from t to t', and nothing else writes the table

@@ -1,8 +1,7 @@
 -- Demand 3's terms: redemptions, the calls that are theirs in any interleaving, redemptions that run whole, and what is claimed.
-use Rattle.std.specs.Prelude.{◌≡◌, List, [], ◌∷◌, ◌++◌, ℕ}
+use Rattle.std.specs.Prelude.{◌≡◌, List, [], ◌∷◌, ◌++◌, ℕ, Ok, Err}
+use Rattle.answers.specs.Answers.{Answer}
 use Rattle.answers.specs.declared.Refusal.{Refusal}
-use Rattle.answers.specs.declared.Done.{Done}
-use Rattle.answers.specs.declared.U64.{U64}
 use Rattle.cards.specs.Table.{Table, Seen}
 use Rattle.history.specs.History.{Call, reads, writes, History}
 
@@ -17,13 +16,13 @@ pub data Holding : Type 0 where
   holds : Redemption → Seen → Holding
 
 -- `Own r v a call`: the call is the write of r, which read v; it expects v, and is answered a
-pub data Own (r : Redemption) (v : Seen) (a : Done) : Call → Type 0 where
+pub data Own (r : Redemption) (v : Seen) (a : Answer Unit) : Call → Type 0 where
   plainly : Own r v a (writes r.card r.mask v (r.next v) a)
 
 -- with the redemption in front whose write was answered so, if it was accepted
-abbrev pub taken : Done → Holding → List Holding → List Holding
-taken Done.Accepted h done = h ∷ done
-taken (Done.Refused why) h done = done
+abbrev pub taken : Answer Unit → Holding → List Holding → List Holding
+taken (Ok tt) h done = h ∷ done
+taken (Err why) h done = done
 
 -- `Interleaved waiting calls done`: the calls are redemptions' own, in any order. Those that wait have read and not yet written; `done`
 -- are those whose writes are accepted, in the order of these writes, each with what it read.
@@ -31,13 +30,13 @@ pub data Interleaved : List Holding → List Call → List Holding → Type 0 wh
   -- no more calls; those that still wait never write
   stop : {waiting : List Holding} → Interleaved waiting [] []
   -- a read that starts no redemption, as each one that is refused
-  look : {waiting done : List Holding} {calls : List Call} {card mask : ℕ} {a : U64} →
+  look : {waiting done : List Holding} {calls : List Call} {card mask : ℕ} {a : Answer ℕ} →
       Interleaved waiting calls done → Interleaved waiting (reads card mask a ∷ calls) done
   -- a read that starts the redemption r, which then waits and holds the number read
   start : {waiting done : List Holding} {calls : List Call} {r : Redemption} {v : Seen} →
-      Interleaved (holds r v ∷ waiting) calls done → Interleaved waiting (reads r.card r.mask (U64.Number v) ∷ calls) done
+      Interleaved (holds r v ∷ waiting) calls done → Interleaved waiting (reads r.card r.mask (Ok v) ∷ calls) done
   -- the one write of a redemption that waits; however it is answered, the redemption waits no more
-  finish : (before after : List Holding) {done : List Holding} {call : Call} {calls : List Call} (r : Redemption) (v : Seen) (a : Done) →
+  finish : (before after : List Holding) {done : List Holding} {call : Call} {calls : List Call} (r : Redemption) (v : Seen) (a : Answer Unit) →
       Own r v a call → Interleaved (before ++ after) calls done →
       Interleaved (before ++ holds r v ∷ after) (call ∷ calls) (taken a (holds r v) done)
 
@@ -46,10 +45,10 @@ pub data Interleaved : List Holding → List Call → List Holding → Type 0 wh
 pub data Runs : List Redemption → List Call → List Holding → Type 0 where
   nobody : Runs [] [] []
   turned_away : {r : Redemption} {rest : List Redemption} {calls : List Call} {done : List Holding} {why : Refusal} →
-      Runs rest calls done → Runs (r ∷ rest) (reads r.card r.mask (U64.Refused why) ∷ calls) done
-  redeems : {r : Redemption} {rest : List Redemption} {call : Call} {calls : List Call} {done : List Holding} {v : Seen} (a : Done) →
+      Runs rest calls done → Runs (r ∷ rest) (reads r.card r.mask (Err why) ∷ calls) done
+  redeems : {r : Redemption} {rest : List Redemption} {call : Call} {calls : List Call} {done : List Holding} {v : Seen} (a : Answer Unit) →
       Own r v a call → Runs rest calls done →
-      Runs (r ∷ rest) (reads r.card r.mask (U64.Number v) ∷ call ∷ calls) (taken a (holds r v) done)
+      Runs (r ∷ rest) (reads r.card r.mask (Ok v) ∷ call ∷ calls) (taken a (holds r v) done)
 
 abbrev pub redemptions : List Holding → List Redemption
 redemptions [] = []

@@ -1,13 +1,13 @@
 -- The bits of a number: under the operations of the machine, and that they determine it. Assumes nothing.
 use mathlib.Core.Path.{◌≡◌, refl, sym, ap, ◌∙◌}
 use Prim.Native.Nat.{ℕ, zero, suc, ◌+◌, ◌-◌, ◌*◌, ◌/◌, ◌%◌, ◌^◌, ◌≤◌, ◌<◌, min}
-use native.Mathlib.Nat.{add-zero, div-one, div-eq_of_lt, pow-suc, pow-succ', lt_of_lt_of_le}
-use native.Mathlib.Nat.{add-mod, mod-eq_of_lt, mul-add-mod_self_right, add-mul-mod_self_right}
+use native.Mathlib.Nat.{add-zero, pow-suc, pow-succ', mod-eq_of_lt}
 use native.Mathlib.Omega.{arith}
 use lib.Arith.{digits_lt}
-use lib.Pow.{pow_pos, pow_mono, shr-shr, shl-shr, field, high, mod-pow-add, mod-mod-pow}
-use lib.Bits.{bit_and, bit_xor, and_shr, xor_shr, and_step, xor_add_and}
+use lib.Pow.{pow_pos, shr-shr, shl-shr, field, high, mod-pow-add, mod-mod-pow}
+use lib.Bits.{bit_and, bit_xor}
 use lib.Count.{count_trailing_zeros, trailing_le}
+use Rattle.std.proofs.lemmas.Nat.Bits.{bit_at-lt, bit_at_lowest, bit_at-suc, bit_at_and, bit_at_xor, bit_at_above, bit_at-zero, bit_at_cat_low, same_from_bits}
 use Rattle.laws.proofs.Order.{by_order}
 use Rattle.int_bits.specs.Gather.{bit}
 use Rattle.int_bits.specs.Stages.{from_bits}
@@ -22,15 +22,15 @@ by_bit P (suc (suc b)) h f g = absurd (omega arith)
 
 pub bit_lt : (x j : ℕ) → bit x j < 2
 unfolding bit
-bit_lt x j = omega arith
+bit_lt = bit_at-lt
 
 pub bit-zero : (x : ℕ) → bit x 0 ≡ x % 2
 unfolding bit
-bit-zero x = ap (λ (y : ℕ). y % 2) (div-one x)
+bit-zero = bit_at_lowest
 
 pub bit-suc : (x j : ℕ) → bit x (suc j) ≡ bit (x / 2) j
 unfolding bit
-bit-suc x j = ap (λ (y : ℕ). y % 2) (ap (λ (e : ℕ). x / 2 ^ e) (omega arith) ∙ sym (shr-shr x 1 j))
+bit-suc = bit_at-suc
 
 pub bit-shr : (x n j : ℕ) → bit (x / 2 ^ n) j ≡ bit x (n + j)
 unfolding bit
@@ -38,15 +38,11 @@ bit-shr x n j = ap (λ (y : ℕ). y % 2) (shr-shr x n j)
 
 pub bit-and : (a b j : ℕ) → bit (bit_and a b) j ≡ min (bit a j) (bit b j)
 unfolding bit
-bit-and a b j = omega (arith, ap (λ (y : ℕ). y % 2) (and_shr a b j), and_step (a / 2 ^ j) (b / 2 ^ j))
+bit-and = bit_at_and
 
 pub bit-xor : (a b j : ℕ) → bit (bit_xor a b) j ≡ (bit a j + bit b j) % 2
 unfolding bit
-bit-xor a b j =
-    let x = a / 2 ^ j in
-    let y = b / 2 ^ j in
-    ap (λ (z : ℕ). z % 2) (xor_shr a b j) ∙ sym (add-mul-mod_self_right (bit_xor x y) (bit_and x y) 2)
-    ∙ ap (λ (z : ℕ). z % 2) (xor_add_and x y) ∙ add-mod x y 2
+bit-xor = bit_at_xor
 
 -- the i + 1 low bits are bit i and the i low ones
 pub low-suc : (x i : ℕ) → x % 2 ^ suc i ≡ bit x i * 2 ^ i + x % 2 ^ i
@@ -55,10 +51,11 @@ low-suc x i = ap (λ (e : ℕ). x % 2 ^ e) (omega arith) ∙ mod-pow-add x 1 i
 
 pub bit_high : {a w j : ℕ} → a < 2 ^ w → w ≤ j → bit a j ≡ 0
 unfolding bit
-bit_high ha h = ap (λ (y : ℕ). y % 2) (div-eq_of_lt (lt_of_lt_of_le ha (pow_mono h)))
+bit_high {a} {w} {j} = bit_at_above a w j
 
 pub bit_none : (j : ℕ) → bit 0 j ≡ 0
-bit_none j = bit_high {w = 0} (omega arith) (omega arith)
+unfolding bit
+bit_none = bit_at-zero
 
 pub bit_not : (w a j : ℕ) → a < 2 ^ w → j < w → bit ((2 ^ w - 1) - a) j + bit a j ≡ 1
 bit_not zero a j ha h = absurd (omega arith)
@@ -80,7 +77,8 @@ unfolding bit
 bit_top b c g hb hg = ap (λ (y : ℕ). y % 2) (high b c hg) ∙ mod-eq_of_lt hb
 
 pub bit_under : (b c g j : ℕ) → j < c → bit (b * 2 ^ c + g) j ≡ bit g j
-bit_under b c g j h = sym (bit-mod (b * 2 ^ c + g) c j h) ∙ ap (λ (y : ℕ). bit y j) (mul-add-mod_self_right b (2 ^ c) g) ∙ bit-mod g c j h
+unfolding bit
+bit_under = bit_at_cat_low
 
 -- ---- a shift to the left by n, whole and at width w
 
@@ -141,17 +139,10 @@ trailing_one (suc k) n h =
 
 -- ---- numbers with the same bits are the same
 
-same_below : (w a b : ℕ) → a < 2 ^ w → b < 2 ^ w → ((j : ℕ) → bit a j ≡ bit b j) → a ≡ b
-same_below zero a b ha hb h = omega arith
-same_below (suc w) a b ha hb h =
-    let rest : (j : ℕ) → bit (a / 2) j ≡ bit (b / 2) j = λ j. sym (bit-suc a j) ∙ h (suc j) ∙ bit-suc b j in
-    let e : a / 2 ≡ b / 2 = same_below w (a / 2) (b / 2) (omega (arith, pow-suc 2 w)) (omega (arith, pow-suc 2 w)) rest in
-    omega (arith, bit-zero a, bit-zero b, h 0)
-
 pub lt_pow : (n : ℕ) → n < 2 ^ n
 lt_pow zero = omega arith
 lt_pow (suc n) = omega (arith, lt_pow n, pow-suc 2 n)
 
 pub same : (a b : ℕ) → ((j : ℕ) → bit a j ≡ bit b j) → a ≡ b
-same a b h =
-    same_below (a + b) a b (lt_of_lt_of_le (lt_pow a) (pow_mono (omega arith))) (lt_of_lt_of_le (lt_pow b) (pow_mono (omega arith))) h
+unfolding bit
+same = same_from_bits

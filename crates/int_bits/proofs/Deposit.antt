@@ -9,9 +9,8 @@ use lib.Bits.{bit_and, bit_xor}
 use Rattle.laws.proofs.Order.{by_order}
 use Rattle.int_bits.specs.Gather.{scatter, bit, count}
 use Rattle.int_bits.specs.Meaning.{Scattered}
-use Rattle.int_bits.specs.Stages.{flip, stage_mask, stage_masks, moved_up, deposit_stages}
+use Rattle.int_bits.specs.Stages.{Width, flip, stage_mask, stage_masks, moved_up, deposit_stages}
 use Rattle.int_bits.proofs.Bit.{by_bit, bit_lt, bit-and, bit-xor, bit-shl, bit_shl_low}
-use Rattle.int_bits.proofs.Width.{Width, one_shl}
 use Rattle.int_bits.proofs.Masks.{mask_of}
 use Rattle.int_bits.proofs.Meaning.{inside, scatter_only}
 use Rattle.int_bits.proofs.Places.{pos, pos_next, room, pos_le, mask_at, mask_below, pos_last, pos_first}
@@ -107,21 +106,20 @@ pub record Depositing (w s : ℕ) (masks : List ℕ) (x₀ x stage : ℕ) : Type
 pub depositing_start : {w s x₀ : ℕ} {masks : List ℕ} → Depositing w s masks x₀ x₀ s
 depositing_start = record { most = omega arith; left = refl }
 
-pub depositing_next : {w s x₀ x stage : ℕ} {masks : List ℕ} → Width w s → 0 < stage → Depositing w s masks x₀ x stage
-    → Depositing w s masks x₀
-    (bit_xor (bit_xor x (bit_and x (get_or masks (stage - 1) 0))) ((bit_and x (get_or masks (stage - 1) 0) * 2 ^ ((1 * 2 ^ (stage - 1)) % 2 ^ 64)) % 2 ^ w))
-    (stage - 1)
+pub depositing_next : {w s x₀ x stage n mask q y d r : ℕ} {masks : List ℕ} → 0 < stage → Depositing w s masks x₀ x stage → n ≡ 2 ^ (stage - 1)
+    → mask ≡ get_or masks (stage - 1) 0 → q ≡ bit_and x mask → y ≡ bit_xor x q → d ≡ (q * 2 ^ n) % 2 ^ w → r ≡ bit_xor y d
+    → Depositing w s masks x₀ r (stage - 1)
 unfolding deposit_stages moved_up
-depositing_next {stage = stage} wd h inv =
+depositing_next {stage = stage} h inv en em eq ey ed er =
     let e : suc (stage - 1) ≡ stage = omega arith in
-    record { most = omega arith; left = rw (one_shl wd (stage - 1) (omega arith)) (rw (← e) at inv.left) }
+    record { most = omega arith; left = rw (er, ey, ed, eq, em, en) (rw (← e) at inv.left) }
 
-pub depositing_end : {w s x₀ x stage : ℕ} {masks : List ℕ} (sparse : ℕ) → stage ≤ 0 → Depositing w s masks x₀ x stage
-    → bit_and x sparse ≡ bit_and (deposit_stages w s masks x₀) sparse
+pub depositing_end : {w s x₀ x stage r : ℕ} {masks : List ℕ} (m : ℕ) → stage ≤ 0 → Depositing w s masks x₀ x stage → r ≡ bit_and x m
+    → r ≡ bit_and (deposit_stages w s masks x₀) m
 unfolding deposit_stages
-depositing_end {stage = stage} sparse h inv =
+depositing_end {stage = stage} m h inv er =
     let e : stage ≡ 0 = omega arith in
-    ap (λ (x : ℕ). bit_and x sparse) (rw e at inv.left)
+    er ∙ ap (λ (x : ℕ). bit_and x m) (rw e at inv.left)
 
 -- what `scatter` makes of `prepare` and `deposit_impl`
 pub deposited : {w s m r : ℕ} {masks : List ℕ} → Width w s → (x : ℕ) → m < 2 ^ w → masks ≡ stage_masks w m s

@@ -2,17 +2,18 @@
 use mathlib.Core.Path.{◌≡◌, refl, sym, ap, ap₂, ◌∙◌}
 use mathlib.Core.List.{List}
 use Prim.Native.Nat.{ℕ, zero, suc, ◌+◌, ◌-◌, ◌*◌, ◌/◌, ◌%◌, ◌^◌, ◌≤◌, ◌<◌, min}
-use native.Mathlib.Nat.{mod-one, mod-lt, mod-eq_of_lt, mod-add-mod, add-mod-mod, add-zero, one-mul, zero-mul, zero-div, sub-zero, lt_of_le_of_lt, le_of_eq}
+use native.Mathlib.Nat.{mod-one, mod-lt, mod-eq_of_lt, mod-add-mod, add-mod-mod, one-mul, zero-mul, zero-div, sub-zero, lt_of_le_of_lt, le_of_eq}
 use native.Mathlib.Numerals.{add-one}
 use native.Mathlib.Omega.{arith}
 use lib.ListN.{get_or}
-use lib.Pow.{pow_pos, pow-add, split, shl-shr}
-use lib.Bits.{bit_and, bit_xor, xor_zero_r, xor_self, xor_shifted, and_block, and_step, and_le_l}
+use lib.Pow.{pow_pos, pow-add, shl-shr}
+use lib.Bits.{bit_and, bit_xor, xor_zero_r, xor_self, xor_shifted, and_le_r}
+use Rattle.std.proofs.lemmas.Nat.{and_comm}
+use Rattle.std.proofs.lemmas.Nat.Bits.{and_pow as bit_at_pow}
 use Rattle.int_bits.specs.Gather.{gather, bit, count}
-use Rattle.int_bits.specs.Stages.{flip, stage_mask, stage_masks, moved_down, extract_stages}
+use Rattle.int_bits.specs.Stages.{Width, flip, stage_mask, stage_masks, moved_down, extract_stages}
 use Rattle.int_bits.proofs.Bit.{by_bit, bit_lt, bit-and, bit-xor, bit-shr, low-suc, same}
-use Rattle.int_bits.proofs.Width.{Width, one_shl}
-use Rattle.int_bits.proofs.Gather.{gather_none, gather_top, gather_lt}
+use Rattle.int_bits.proofs.Recursion.{gather_none, gather_top, gather_lt}
 use Rattle.int_bits.proofs.Masks.{mask_of}
 use Rattle.int_bits.proofs.Places.{pos, pos_next, room, mask_at, pos_last, pos_first}
 
@@ -23,10 +24,7 @@ min_sum a b p ha hb hp = by_bit _ p hp (λ e. omega arith) (λ e. omega arith)
 
 and_pow : (p m : ℕ) → bit_and (2 ^ p) m ≡ bit m p * 2 ^ p
 unfolding bit
-and_pow p m =
-    ap₂ bit_and {x = 2 ^ p} {y = 1 * 2 ^ p + 0} (omega arith) (sym (split m p))
-    ∙ and_block p 1 (m / 2 ^ p) 0 (m % 2 ^ p) (pow_pos p) (mod-lt m (pow_pos p))
-    ∙ ap (λ (q : ℕ). q * 2 ^ p + 0) (and_step 1 (m / 2 ^ p) ∙ omega arith) ∙ add-zero _
+and_pow p m = and_comm (2 ^ p) m ∙ bit_at_pow m p
 
 pow-shr : (p n : ℕ) → n ≤ p → 2 ^ p / 2 ^ n ≡ 2 ^ (p - n)
 pow-shr p n h =
@@ -96,14 +94,14 @@ module _ (w x m : ℕ) (hm : m < 2 ^ w) where
   one_of i e = omega (arith, bit-and x m i, bit_lt m i)
 
   -- after k stages each bit of x AND m stands where these stages take it
-  down_all : (masks : List ℕ) (k : ℕ) → x < 2 ^ w → ((j : ℕ) → j < k → get_or masks j 0 ≡ stage_mask w m j)
+  down_all : (masks : List ℕ) (k : ℕ) → ((j : ℕ) → j < k → get_or masks j 0 ≡ stage_mask w m j)
       → extract_stages k masks (bit_and x m) ≡ spread (pos (flip w m) k) (bit_and x m) w
   unfolding extract_stages
-  down_all masks zero hx is =
-      sym (mod-eq_of_lt (lt_of_le_of_lt (and_le_l x m) hx)) ∙ spread_self (bit_and x m) w
+  down_all masks zero is =
+      sym (mod-eq_of_lt (lt_of_le_of_lt (and_le_r x m) hm)) ∙ spread_self (bit_and x m) w
       ∙ spread_same _ _ (bit_and x m) w (λ i l e. sym (pos_first (flip w m) i))
-  down_all masks (suc k) hx is =
-      ap₂ (moved_down (2 ^ k)) (is k (omega arith)) (down_all masks k hx (λ j l. is j (omega arith)))
+  down_all masks (suc k) is =
+      ap₂ (moved_down (2 ^ k)) (is k (omega arith)) (down_all masks k (λ j l. is j (omega arith)))
       ∙ spread-map (moved_down (2 ^ k) (stage_mask w m k)) (down_xor (2 ^ k) (stage_mask w m k)) _ _ (bit_and x m) w
       (λ i l e.
       let a = mask_at w m hm i l k (one_of i e) in
@@ -111,9 +109,9 @@ module _ (w x m : ℕ) (hm : m < 2 ^ w) where
       ∙ ap (λ (q : ℕ). 2 ^ q) (ap (λ (c : ℕ). pos (flip w m) k i - c * 2 ^ k) a ∙ sym (pos_next (flip w m) k i)))
 
   -- over the masks of m the stages are gather
-  pub extract-gather : (s : ℕ) → w ≤ 2 ^ s → x < 2 ^ w → extract_stages s (stage_masks w m s) (bit_and x m) ≡ gather w x m
-  extract-gather s hs hx =
-      down_all (stage_masks w m s) s hx (mask_of w m s)
+  pub extract-gather : (s : ℕ) → w ≤ 2 ^ s → extract_stages s (stage_masks w m s) (bit_and x m) ≡ gather w x m
+  extract-gather s hs =
+      down_all (stage_masks w m s) s (mask_of w m s)
       ∙ spread_same _ _ (bit_and x m) w (λ i l e. pos_last w m hm i l s hs) ∙ sym (spread-gather w x m)
 
 -- ---- the loop, in the code's shape
@@ -126,18 +124,17 @@ pub extracting_start : {s x₀ : ℕ} {masks : List ℕ} → Extracting s masks 
 unfolding extract_stages
 extracting_start = record { most = omega arith; done = refl }
 
-pub extracting_next : {w s x₀ x stage : ℕ} {masks : List ℕ} → Width w s → stage < s → Extracting s masks x₀ x stage
-    → Extracting s masks x₀
-    (bit_xor (bit_xor x (bit_and x (get_or masks stage 0))) (bit_and x (get_or masks stage 0) / 2 ^ ((1 * 2 ^ stage) % 2 ^ 64)))
-    (stage + 1)
+pub extracting_next : {s x₀ x stage n mask q y d r : ℕ} {masks : List ℕ} → stage < s → Extracting s masks x₀ x stage → n ≡ 2 ^ stage
+    → mask ≡ get_or masks stage 0 → q ≡ bit_and x mask → y ≡ bit_xor x q → d ≡ q / 2 ^ n → r ≡ bit_xor y d
+    → Extracting s masks x₀ r (stage + 1)
 unfolding extract_stages moved_down
-extracting_next {stage = stage} {masks = masks} wd h inv =
-    record { most = omega arith; done = rw (one_shl wd stage h, add-one stage, inv.done) }
+extracting_next {stage = stage} h inv en em eq ey ed er =
+    record { most = omega arith; done = rw (er, ey, ed, eq, em, en, add-one stage, inv.done) }
 
 pub extracting_end : {s x₀ x stage : ℕ} {masks : List ℕ} → s ≤ stage → Extracting s masks x₀ x stage → x ≡ extract_stages s masks x₀
 extracting_end {s} {stage = stage} h inv = let e : stage ≡ s = omega arith in rw e at inv.done
 
 -- what `gather` makes of `prepare` and `extract_impl`
-pub extracted : {w s x m r : ℕ} {masks : List ℕ} → Width w s → x < 2 ^ w → m < 2 ^ w → masks ≡ stage_masks w m s
+pub extracted : {w s m r : ℕ} {masks : List ℕ} → Width w s → (x : ℕ) → m < 2 ^ w → masks ≡ stage_masks w m s
     → r ≡ extract_stages s masks (bit_and x m) → r ≡ gather w x m
-extracted {w} {s} {x} {m} wd hx hm e d = d ∙ rw e (extract-gather w x m hm s (le_of_eq wd.power) hx)
+extracted {w} {s} {m} wd x hm e d = d ∙ rw e (extract-gather w x m hm s (le_of_eq wd.power))

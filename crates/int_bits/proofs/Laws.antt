@@ -10,7 +10,7 @@ use Rattle.int_bits.specs.Gather.{gather, scatter, bit, count}
 use Rattle.int_bits.specs.Meaning.{Gathered, Scattered}
 use Rattle.int_bits.proofs.Bit.{bit_lt, bit-and, bit_high, bit-mod}
 use Rattle.int_bits.proofs.Count.{count_ones}
-use Rattle.int_bits.proofs.Gather.{gather_lt}
+use Rattle.int_bits.proofs.Recursion.{gather_lt}
 use Rattle.int_bits.proofs.Meaning.{fewer, by_place, gather_is, gather_only, scatter_is, scatter_only}
 
 module _ (w m : ℕ) (hm : m < 2 ^ w) (x : ℕ) where

@@ -7,7 +7,7 @@ use Rattle.int_bits.specs.Gather.{gather, scatter, bit, count}
 use Rattle.int_bits.specs.Meaning.{One, Gathered, Scattered}
 use Rattle.int_bits.proofs.Bit.{by_bit, bit_lt, bit_high, same}
 use Rattle.int_bits.proofs.Count.{count_lt, nth}
-use Rattle.int_bits.proofs.Gather.{gather_lt, gather_at, scatter_lt, scatter_at}
+use Rattle.int_bits.proofs.Recursion.{gather_lt, gather_at, scatter_lt, scatter_at}
 
 pub one_at : {m p : ℕ} → bit m p ≡ 1 → One m (count m p) p
 one_at e = record { one = e; below = refl }

@@ -1,11 +1,11 @@
 -- Masks that are one run of ones: what adjacent ones are, and gather and scatter under a run, a shift and a mask each. Assumes nothing.
-use Rattle.std.proofs.Common.{◌≡◌, ℕ, zero, suc, ◌+◌, ◌-◌, ◌*◌, ◌/◌, ◌%◌, ◌^◌, ◌<◌, ◌≤◌, min, sym, ap, ◌∙◌, add-zero, add-suc, mod-lt, arith, pow_pos}
+use Rattle.std.proofs.Common.{Option, Some, None, refl, ◌≡◌, ℕ, zero, suc, ◌+◌, ◌-◌, ◌*◌, ◌/◌, ◌%◌, ◌^◌, ◌<◌, ◌≤◌, min, sym, ap, ◌∙◌, add-zero, add-suc, mod-lt, arith, pow_pos}
 use native.Mathlib.Nat.{min-zero}
 use lib.Bits.{bit_and}
 use Rattle.laws.proofs.Order.{by_order}
 use Rattle.int_bits.specs.Gather.{gather, scatter, bit, count}
 use Rattle.int_bits.specs.Meaning.{One, Gathered, Scattered}
-use Rattle.int_bits.specs.Run.{Adjacent, Run, Starts}
+use Rattle.int_bits.specs.Run.{Adjacent, Run, Starts, Found}
 use Rattle.int_bits.proofs.Bit.{by_bit, bit_lt, bit-shr, bit-and, bit_high, bit-mod, bit_none, bit_up, bit_up_low, bit-shl, same}
 use Rattle.int_bits.proofs.Count.{count-suc, count_none, count_lt, nth}
 use Rattle.int_bits.proofs.Meaning.{one_at, inside, fewer, gather_only, scatter_only}
@@ -67,6 +67,19 @@ one_start {w} {m} {r} {r'} a b =
     (λ h. let (_, x) = a.run l in let (_, y) = b.run (b.if_adjacent (a.only_if_adjacent l)) in omega (arith, start_le h x y, start_le h y x))
     (λ h. let z : m ≡ 0 = omega arith in a.of_none z ∙ sym (b.of_none z)))
     (λ l. let no : Adjacent m → ⊥ = λ adj. omega (arith, a.if_adjacent adj) in a.if_apart no ∙ sym (b.if_apart no))
+
+pub one_found : (w m : ℕ) (a b : Option ℕ) → Found w m a → Found w m b → a ≡ b
+one_found w m (Some r) (Some r') (h, a) (h', b) = ap Some (one_start a b)
+one_found w m (Some r) None (h, a) b = absurd (omega (arith, one_start a b))
+one_found w m None (Some r) a (h, b) = absurd (omega (arith, one_start a b))
+one_found w m None None a b = refl
+
+-- a start in a wider word is one within the mask's own width
+pub found_below : {v w m r : ℕ} → 0 < w → m < 2 ^ w → (r < v) × Starts v m r → r < w
+found_below {w = w} {m = m} {r = r} h hm (l, a) = by_order r w (λ q. q) (λ q. absurd (omega (arith, a.of_none (none q (a.run l).1))))
+  where
+    none : w ≤ r → {length : ℕ} → Run m r length → m ≡ 0
+    none q x = same m 0 (λ p. by_order p r (x.below p) (λ k. bit_high hm (omega arith)) ∙ sym (bit_none p))
 
 -- ---- where the ones of a run stand
 
@@ -137,3 +150,12 @@ module _ {m s l : ℕ} (r : Run m s l) where
       where
         at : (p : ℕ) → bit (bit_and ((x * 2 ^ s) % 2 ^ w) m) p ≡ min (bit ((x * 2 ^ s) % 2 ^ w) p) (bit m p)
         at p = bit-and ((x * 2 ^ s) % 2 ^ w) m p
+
+-- ---- what `gather` and `scatter` make of the answer of `run_start`
+
+module _ {v m start : ℕ} (w x : ℕ) (hm : m < 2 ^ w) (found : (start < v) × Starts v m start) where
+  pub gathered_by_run : {a r : ℕ} → a ≡ bit_and x m → r ≡ a / 2 ^ start → r ≡ gather w x m
+  gathered_by_run ea er = rw (er, ea) (shifted_down (found.1.run found.0).1 w hm x)
+
+  pub scattered_by_run : {a r : ℕ} → a ≡ (x * 2 ^ start) % 2 ^ w → r ≡ bit_and a m → r ≡ scatter w x m
+  scattered_by_run ea er = rw (er, ea) (shifted_up (found.1.run found.0).1 w hm x)

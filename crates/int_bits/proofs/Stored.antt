@@ -10,7 +10,7 @@ use Rattle.int_bits.specs.Meaning.{One, Gathered}
 use Rattle.int_bits.specs.Stored.{stored}
 use Rattle.int_bits.proofs.Bit.{by_bit, bit_lt, bit-and, bit-xor, bit_high, bit_none, same}
 use Rattle.int_bits.proofs.Count.{count_ones}
-use Rattle.int_bits.proofs.Gather.{scatter_lt}
+use Rattle.int_bits.proofs.Recursion.{scatter_lt}
 use Rattle.int_bits.proofs.Meaning.{one_at, by_place, gather_is, gather_only, scatter_is}
 use Rattle.int_bits.proofs.Laws.{scatter-gather}
 

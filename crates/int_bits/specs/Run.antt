@@ -1,5 +1,5 @@
 -- Masks that are one run of ones, bit by bit.
-use Rattle.std.specs.Prelude.{◌≡◌, ℕ, ◌+◌, ◌<◌, ◌≤◌}
+use Rattle.std.specs.Prelude.{◌≡◌, ℕ, ◌+◌, ◌<◌, ◌≤◌, Option, Some, None}
 use Rattle.int_bits.specs.Gather.{bit}
 
 -- the ones of m are adjacent: between two of them there is no zero
@@ -12,7 +12,7 @@ pub record Run (m start length : ℕ) : Type 0 where
   pub inside : (p : ℕ) → start ≤ p → p < start + length → bit m p ≡ 1
   pub above : (p : ℕ) → start + length ≤ p → bit m p ≡ 0
 
--- the promise of `run_start`: its answer r is below w exactly where the ones of m are adjacent, and then m is a run from r up; else it is w.
+-- where the ones of m start: r is below w exactly where the ones of m are adjacent, and then m is a run from r up; else it is w.
 -- Of 0, which has no ones, it is 0
 pub record Starts (w m r : ℕ) : Type 0 where
   pub if_adjacent : Adjacent m → r < w
@@ -20,3 +20,8 @@ pub record Starts (w m r : ℕ) : Type 0 where
   pub if_apart : (Adjacent m → ⊥) → r ≡ w
   pub run : r < w → (length : ℕ) × Run m r length
   pub of_none : m ≡ 0 → r ≡ 0
+
+-- the promise of `run_start`: such a start below w, or none where it is w
+abbrev pub Found : ℕ → ℕ → Option ℕ → Type 0
+Found w m (Some r) = (r < w) × Starts w m r
+Found w m None = Starts w m w

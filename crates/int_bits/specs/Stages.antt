@@ -1,7 +1,12 @@
 -- The stages of the code, of which stage k moves bits by 2^k: the mask of each, and what the stages do under any masks.
-use Rattle.std.specs.Prelude.{List, [], ◌∷◌, ◌++◌, ℕ, zero, suc, ◌+◌, ◌-◌, ◌*◌, ◌/◌, ◌%◌, ◌^◌, get_or}
+use Rattle.std.specs.Prelude.{◌≡◌, List, [], ◌∷◌, ◌++◌, ℕ, zero, suc, ◌+◌, ◌-◌, ◌*◌, ◌/◌, ◌%◌, ◌^◌, ◌≤◌, get_or}
 use Rattle.std.specs.Int.Bits.{bit_and, bit_xor}
 use Rattle.int_bits.specs.Gather.{bit, count}
+
+-- w bits take s stages: one for each power of 2 below w
+pub record Width (w s : ℕ) : Type 0 where
+  pub power : w ≡ 2 ^ s
+  pub small : w ≤ 64
 
 -- the number whose bits below w are f 0, f 1, f 2 and so on
 unfoldable pub from_bits : ℕ → (ℕ → ℕ) → ℕ

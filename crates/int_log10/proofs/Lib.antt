@@ -1,4 +1,3 @@
 pub mod Log
 pub mod Sums
-pub mod Left
-pub mod Answer
+pub mod Steps

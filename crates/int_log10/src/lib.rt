@@ -2,11 +2,13 @@
 // The log of v > 0 is the k with 10^k <= v < 10^(k+1); a number that is not above 0 has none and is refused.
 #![tactic(auto)]
 
-ghost use Rattle.std.specs.Prelude.{◌≡◌, ◌<◌, pos};
-ghost use Rattle.answers.specs.Answers.{means_u32};
+ghost use Rattle.std.specs.Prelude.{◌≡◌, ◌<◌, IfSome, IfNone};
+ghost use Rattle.answers.specs.Answers.{means};
+ghost use Rattle.answers.specs.Reply.{gives, refused};
 ghost use Rattle.int_log10.specs.Log.{log, log_of, digit_count};
 
-use answers::{Refusal, U32};
+use answers::Refusal;
+use widths::Integer;
 
 // For better performance, avoid branches by assembling the solution
 // in the bits above the low 8 bits.
@@ -17,6 +19,7 @@ const U8_C1: u32 = 0b11_00000000 - 10; // 758
 const U8_C2: u32 = 0b10_00000000 - 100; // 412
 
 // 0 < val <= u8::MAX
+#[tactic(auto, using(crate::proofs::Sums::two_sums))]
 fn u8_impl(val: u8) -> u32
     requires { 0 < val }
     ensures { result ≡ log val }
@@ -43,6 +46,7 @@ const C3: u32 = 0b111_00000000000000000 - 1000; // 916504
 const C4: u32 = 0b100_00000000000000000 - 10000; // 514288
 
 // 0 < val < 100_000
+#[tactic(auto, using(crate::proofs::Sums::four_sums))]
 fn less_than_5(val: u32) -> u32
     requires { (0 < val) × (val < 100_000) }
     ensures { result ≡ log val }
@@ -66,6 +70,7 @@ fn u16_impl(val: u16) -> u32
 }
 
 // 0 < val <= u32::MAX
+#[tactic(auto, using(crate::proofs::Steps::step_five, crate::proofs::Steps::five_digits))]
 fn u32_impl(mut val: u32) -> u32
     requires { 0 < val }
     ensures { result ≡ log val }
@@ -79,6 +84,7 @@ fn u32_impl(mut val: u32) -> u32
 }
 
 // 0 < val <= u64::MAX
+#[tactic(auto, using(crate::proofs::Steps::step_five, crate::proofs::Steps::step_ten, crate::proofs::Steps::five_digits))]
 fn u64_impl(mut val: u64) -> u32
     requires { 0 < val }
     ensures { result ≡ log val }
@@ -95,95 +101,73 @@ fn u64_impl(mut val: u64) -> u32
     log + less_than_5(val as u32)
 }
 
-// The log at each type. The Rust takes a `NonZero` or gives an `Option`; here a number that is not above 0 gets a refusal.
-pub fn u8(val: u8) -> U32
-    ensures { means_u32 result ≡ log_of (pos val) }
-{
-    if val > 0 {
-        U32::Number(u8_impl(val))
-    } else {
-        U32::Refused(Refusal::NoLog)
+// What each type brings: the algorithm of its width. A signed number above 0 is cast, which loses nothing.
+pub trait Log10: Integer {
+    // The log of a number above 0; any other has none.
+    fn checked_ilog10(self) -> Option<u32>
+        ensures above { IfSome result (λ k. log_of (Self.whole self) ≡ gives k) }
+        ensures not_above { IfNone result (log_of (Self.whole self) ≡ refused 2) };
+}
+
+impl Log10 for u8 {
+    fn checked_ilog10(self) -> Option<u32> {
+        (self > 0).then(|| u8_impl(self))
     }
 }
 
-pub fn u16(val: u16) -> U32
-    ensures { means_u32 result ≡ log_of (pos val) }
-{
-    if val > 0 {
-        U32::Number(u16_impl(val))
-    } else {
-        U32::Refused(Refusal::NoLog)
+impl Log10 for u16 {
+    fn checked_ilog10(self) -> Option<u32> {
+        (self > 0).then(|| u16_impl(self))
     }
 }
 
-pub fn u32(val: u32) -> U32
-    ensures { means_u32 result ≡ log_of (pos val) }
-{
-    if val > 0 {
-        U32::Number(u32_impl(val))
-    } else {
-        U32::Refused(Refusal::NoLog)
+impl Log10 for u32 {
+    fn checked_ilog10(self) -> Option<u32> {
+        (self > 0).then(|| u32_impl(self))
     }
 }
 
-pub fn u64(val: u64) -> U32
-    ensures { means_u32 result ≡ log_of (pos val) }
-{
-    if val > 0 {
-        U32::Number(u64_impl(val))
-    } else {
-        U32::Refused(Refusal::NoLog)
+impl Log10 for u64 {
+    fn checked_ilog10(self) -> Option<u32> {
+        (self > 0).then(|| u64_impl(self))
     }
 }
 
-pub fn i8(val: i8) -> U32
-    ensures { means_u32 result ≡ log_of val }
-{
-    if val > 0 {
-        U32::Number(u8_impl(val as u8))
-    } else {
-        U32::Refused(Refusal::NoLog)
+impl Log10 for i8 {
+    fn checked_ilog10(self) -> Option<u32> {
+        (self > 0).then(|| u8_impl(self as u8))
     }
 }
 
-pub fn i16(val: i16) -> U32
-    ensures { means_u32 result ≡ log_of val }
-{
-    if val > 0 {
-        U32::Number(u16_impl(val as u16))
-    } else {
-        U32::Refused(Refusal::NoLog)
+impl Log10 for i16 {
+    fn checked_ilog10(self) -> Option<u32> {
+        (self > 0).then(|| u16_impl(self as u16))
     }
 }
 
-pub fn i32(val: i32) -> U32
-    ensures { means_u32 result ≡ log_of val }
-{
-    if val > 0 {
-        U32::Number(u32_impl(val as u32))
-    } else {
-        U32::Refused(Refusal::NoLog)
+impl Log10 for i32 {
+    fn checked_ilog10(self) -> Option<u32> {
+        (self > 0).then(|| u32_impl(self as u32))
     }
 }
 
-pub fn i64(val: i64) -> U32
-    ensures { means_u32 result ≡ log_of val }
-{
-    if val > 0 {
-        U32::Number(u64_impl(val as u64))
-    } else {
-        U32::Refused(Refusal::NoLog)
+impl Log10 for i64 {
+    fn checked_ilog10(self) -> Option<u32> {
+        (self > 0).then(|| u64_impl(self as u64))
     }
+}
+
+// The log at every type. The Rust takes a `NonZero` or gives an `Option`; here a number that is not above 0 gets a refusal.
+pub fn checked_ilog10<T: Log10>(val: T) -> Result<u32, Refusal>
+    ensures { means result ≡ log_of (T.whole val) }
+{
+    val.checked_ilog10().ok_or(Refusal::NoLog)
 }
 
 // How many decimal digits v has: its log plus one.
-#[tactic(auto, unfolding(crate::specs::Log::digit_count))]
-pub fn digit_count(v: u64) -> U32
-    ensures { means_u32 result ≡ digit_count v }
+#[tactic(auto, using(crate::proofs::Steps::twenty_digits), unfolding(crate::specs::Log::digit_count))]
+pub fn digit_count(v: u64) -> Result<u32, Refusal>
+    ensures { means result ≡ digit_count v }
 {
-    if v > 0 {
-        U32::Number(u64_impl(v) + 1)
-    } else {
-        U32::Refused(Refusal::NoLog)
-    }
+    Ok(checked_ilog10(v)? + 1)
 }

@@ -1,5 +1,5 @@
 -- The root's laws: it is the s with s * s ≤ n < (s + 1) * (s + 1), and no other number is.
-use Rattle.std.proofs.Common.{◌≡◌, ℕ, zero, suc, ◌+◌, ◌*◌, ◌<◌, ◌≤◌, ℤ, pos, negsuc, refl, lt_of_le_of_lt, mul-le-mul, le_antisymm, arith, ltb-false, ltb-true, lt-ltb}
+use Rattle.std.proofs.Common.{◌≡◌, ℕ, zero, suc, ◌+◌, ◌*◌, ◌%◌, ◌<◌, ◌≤◌, ℤ, pos, negsuc, refl, lt_of_le_of_lt, mul-le-mul, mod-eq_of_lt, le_antisymm, arith, ltb-false, ltb-true, lt-ltb}
 use Rattle.answers.specs.Reply.{refusal_of}
 use Rattle.laws.specs.First.{first_from}
 use Rattle.laws.proofs.First.{first_passes, first_only}
@@ -34,6 +34,10 @@ root_le n = below (root n) (root_is n).low
     below : (s : ℕ) → s * s ≤ n → s ≤ n
     below zero h = omega arith
     below (suc s) h = omega arith
+
+-- the root of a number that fits, cut to what fits
+pub root_mod : (n m : ℕ) → n < m → root n % m ≡ root n
+root_mod n m h = mod-eq_of_lt (lt_of_le_of_lt (root_le n) h)
 
 pub remainder_root : {n s r : ℕ} → Remainder n s r → Root n s
 remainder_root p = record { low = omega arith; high = omega arith }

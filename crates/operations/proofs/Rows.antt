@@ -1,11 +1,11 @@
--- The tests of `answer` are the rows of `answer_of`, in their order, and `listed` is the row of the tables.
+-- The rows of `answer_of`, in their order.
 use mathlib.Core.Path.{◌≡◌, refl, sym, ap, ◌∙◌, subst}
 use mathlib.Core.Bool.{Bool, true, false, not, ◌&&◌}
 use mathlib.Core.List.{[], ◌∷◌}
 use Prim.Native.Nat.{ℕ, ◌<◌, ◌≤◌}
 use native.Mathlib.Omega.{arith}
-use borrow.Author.Tests.{le-ltb, le-leb, lt-leb, eq-eqb, ne_eqb}
-use lib.Dec.{leb, ltb, eqb}
+use borrow.Author.Tests.{le-ltb, le-leb, lt-leb}
+use lib.Dec.{leb, eqb}
 use lib.ListN.{get_or-eq_default}
 use Rattle.answers.specs.Reply.{refused}
 use Rattle.operations.specs.Operations.{first_code, end_code, takes, limit, operation, answer_of, Ready}
@@ -19,12 +19,6 @@ module _ (op code : ℕ) where
   unlisted h =
       let none : end_code op ≤ code = subst (λ n. n ≤ code) (sym (get_or-eq_default (8 ∷ 8 ∷ 4 ∷ 4 ∷ 8 ∷ 8 ∷ []) 0 h)) (omega arith) in
       sym (ap (λ t. leb (first_code op) code && t) (le-ltb code (end_code op) none) ∙ and_no (leb (first_code op) code))
-
-  pub too_low : code < first_code op → false ≡ takes op code
-  too_low h = sym (ap (λ t. t && ltb code (end_code op)) (lt-leb (first_code op) code h))
-
-  pub from_first : first_code op ≤ code → ltb code (end_code op) ≡ takes op code
-  from_first h = sym (ap (λ t. t && ltb code (end_code op)) (le-leb (first_code op) code h))
 
 module _ (op code a b : ℕ) where
   pub refuses_11 : takes op code ≡ false → refused 11 ≡ answer_of op code a b
@@ -52,27 +46,3 @@ module _ (op code a b : ℕ) where
     pub passes_used : 2 ≤ op → operation op code a b ≡ answer_of op code a b
     unfolding answer_of
     passes_used h = simp (r.listed, lt-leb (limit code) a r.small, lt-leb (limit code) b r.small_b, le-leb 2 op h)
-
--- the same rows, by the facts that the tests of `answer` leave
-module _ (op code a b : ℕ) where
-  pub answered_11 : takes op code ≡ false → refused 11 ≡ answer_of op code a b
-  answered_11 = refuses_11 op code a b
-
-  module _ (e : takes op code ≡ true) where
-    pub answered_a : limit code ≤ a → refused 12 ≡ answer_of op code a b
-    answered_a = refuses_a op code a b e
-
-    module _ (small : a < limit code) where
-      pub answered_b : limit code ≤ b → refused 12 ≡ answer_of op code a b
-      answered_b = refuses_b op code a b e small
-
-      module _ (small_b : b < limit code) where
-        pub answered_unused : op < 2 → (b ≡ 0 → ⊥) → refused 12 ≡ answer_of op code a b
-        answered_unused h k = refuses_unused op code a b (record { listed = e; small = small; small_b = small_b }) h (ap not (ne_eqb b 0 k))
-
-        pub answered_zero : b ≡ 0 → operation op code a b ≡ answer_of op code a b
-        unfolding answer_of
-        answered_zero k = simp (e, lt-leb (limit code) a small, lt-leb (limit code) b small_b, eq-eqb b 0 k, and_no)
-
-        pub answered_used : 2 ≤ op → operation op code a b ≡ answer_of op code a b
-        answered_used = passes_used op code a b (record { listed = e; small = small; small_b = small_b })

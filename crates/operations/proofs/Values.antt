@@ -23,7 +23,7 @@ use Rattle.int_sqrt.proofs.Root.{root_is}
 use Rattle.int_log10.specs.Log.{log, log_of}
 use Rattle.int_log10.proofs.Log.{log_is}
 use Rattle.int_bits.proofs.Count.{count_le}
-use Rattle.int_bits.proofs.Gather.{gather_lt, scatter_lt}
+use Rattle.int_bits.proofs.Recursion.{gather_lt, scatter_lt}
 use Rattle.signed.specs.Signed.{mod_z, eq_z, min_z, outside, exact, next, rem_euclid, next_multiple}
 use Rattle.signed.proofs.ModZ.{below}
 use Rattle.operations.specs.Operations.{width_of, signed, numeral, limit, operation, refusals, answer_of}

@@ -1,2 +1,4 @@
 -- The definitions that the contracts cite.
 pub mod Operations
+pub mod Codes
+pub mod Operands

@@ -59,7 +59,7 @@ refusals op code a b =
 unfoldable pub answer_of : ℕ → ℕ → ℕ → ℕ → Reply ℕ
 answer_of op code a b = unless (refusals op code a b) (operation op code a b)
 
--- what `operate` asks: the width is taken, and both operands fit it
+-- the width is taken, and both operands fit it
 pub record Ready (op code a b : ℕ) : Type 0 where
   pub listed : takes op code ≡ true
   pub small : a < limit code

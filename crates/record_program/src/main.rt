@@ -1,47 +1,38 @@
 // Answers the records on standard input, in order and to its end, on standard output.
 #![tactic(auto)]
 
-ghost use Rattle.std.specs.Prelude.{◌≤◌, length};
-ghost use Rattle.record_program.specs.Filled.{ended_at};
+ghost use Rattle.std.specs.Prelude.{◌≤◌, length, IfOk};
 
-use answers::U64;
-use anyhow::{Context, Result, bail};
+use anyhow::{Context, Result};
 use std::io;
 use std::io::{Read, Write};
 use std::process::ExitCode;
 
-// How reading went: the buffer is full, the input ended after so many bytes, or a read failed.
-#[derive(Drop)]
-enum Filled {
-    Full,
-    Ended(usize),
-    Failed(io::Error),
-}
+// The bytes of 4,096 records, and of their answers.
+const INPUT: usize = 69_632;
 
-// Reads until the buffer is full, however few bytes each read brings.
-fn fill(reader: &mut impl Read, buffer: &mut [u8]) -> Filled
-    ensures { ended_at result ≤ length buffer.new }
+const OUTPUT: usize = 36_864;
+
+// Reads until the buffer is full or the input ends, however few bytes each read brings: how many came.
+fn fill(reader: &mut impl Read, buffer: &mut [u8]) -> io::Result<usize>
+    ensures { IfOk result (λ n. n ≤ length buffer.new) }
 {
     let mut n = 0;
     while n < buffer.len() {
-        match reader.read(&mut buffer[n..]) {
-            Ok(0) => return Filled::Ended(n),
-            Ok(more) => n += more,
-            Err(e) => return Filled::Failed(e),
+        match reader.read(&mut buffer[n..])? {
+            0 => break,
+            more => n += more,
         }
     }
-    Filled::Full
+    Ok(n)
 }
 
 // Writes the answers to all the records of the input.
 fn answer(writer: &mut impl Write, input: &[u8], output: &mut [u8]) -> Result<()> {
-    match records::many(input, output) {
-        U64::Number(size) => {
-            let n = size as usize;
-            writer.write_all(&output[..n]).context("write")
-        }
-        U64::Refused(_) => bail!("no room for the answers"),
-    }
+    let size = records::many(input, output)
+        .ok()
+        .context("no room for the answers")?;
+    writer.write_all(&output[..size as usize]).context("write")
 }
 
 // One turn: whole records as long as the input goes on, then what is left of it. Says whether to go on. The answers to
@@ -52,27 +43,19 @@ fn turn(
     input: &mut [u8],
     output: &mut [u8],
 ) -> Result<bool> {
-    match fill(reader, input) {
-        Filled::Full => {
-            answer(writer, input, output)?;
-            Ok(true)
-        }
-        Filled::Ended(n) => {
-            answer(writer, &input[..n], output)?;
-            Ok(false)
-        }
-        Filled::Failed(e) => Err(e).context("read"),
-    }
+    let n = fill(reader, input).context("read")?;
+    answer(writer, &input[..n], output)?;
+    Ok(n == input.len())
 }
 
-// Room for 4,096 records and their answers. A proved loop has to end, and nothing says that the input does: the turns are
-// counted down from a number that no run uses up.
+// A proved loop has to end, and nothing says that the input does: the turns are counted to a number that no run uses up.
 fn run(reader: &mut impl Read, writer: &mut impl Write) -> Result<()> {
-    let mut input = [0u8; 69_632];
-    let mut output = [0u8; 36_864];
-    let mut turns = u64::MAX;
-    while turns > 0 && turn(reader, writer, &mut input, &mut output)? {
-        turns -= 1;
+    let mut input = [0u8; INPUT];
+    let mut output = [0u8; OUTPUT];
+    for _ in 0..u64::MAX {
+        if !turn(reader, writer, &mut input, &mut output)? {
+            break;
+        }
     }
     Ok(())
 }

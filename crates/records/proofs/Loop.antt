@@ -9,13 +9,12 @@ use native.Mathlib.Omega.{arith}
 use borrow.Author.Tests.{lt-ltb, le-ltb}
 use borrow.Rule.Slice.PartMut.{put_mid}
 use lib.Dec.{ltb}
-use lib.ListN.{length, take, drop, length-append, length-drop}
-use lib.Seq.{take_all, take_at, drop_at, drop-drop}
+use lib.ListN.{length, take, drop, length-append, length-drop, drop_of_length-le}
+use lib.Seq.{take_all, take_at, drop_at, drop-drop, take-length, drop-length}
+use Rattle.std.specs.Int.{div_ceil}
 use Rattle.answers.specs.Reply.{gives, refused, row, leaves}
-use Rattle.answers.specs.Answers.{means_u64}
+use Rattle.answers.specs.Answers.{Answer, means}
 use Rattle.answers.proofs.Rows.{accepted_only_if}
-use Rattle.answers.specs.declared.Done.{Done}
-use Rattle.answers.specs.declared.U64.{U64}
 use Rattle.records.specs.Records.{answers_to, records, answers, reply_to, answer_bytes, Responds, many_reply, Many}
 use Rattle.records.proofs.Answers.{length-answers, answers_next}
 
@@ -29,17 +28,19 @@ pub answered_start : (input output : List ℕ) → 9 * records input ≤ length 
 unfolding answers_to
 answered_start input output h = record { within = omega arith; room = h; same = refl; is = refl }
 
--- the part of the input that the code lends is the next record, or what is left
-part_is : (input : List ℕ) (i e : ℕ) → e ≡ min (17 * i + 17) (length input) → 17 * i ≤ length input → take (e - 17 * i) (drop (17 * i) input) ≡ take 17 (drop (17 * i) input)
-part_is input i e p h = by (dec_le (17 * i + 17) (length input))
+-- what is cut off the front is the next record, or a tail that is too short to be one
+chunk_is : (x rest more : List ℕ) → rest ≡ x ++ more → length x ≡ min 17 (length rest) → (x ≡ take 17 rest) × (more ≡ drop 17 rest)
+chunk_is x rest more e n = by (dec_le 17 (length rest))
   where
-    by : Dec (17 * i + 17 ≤ length input) → take (e - 17 * i) (drop (17 * i) input) ≡ take 17 (drop (17 * i) input)
-    by (yes k) = let q : e - 17 * i ≡ 17 = omega arith in ap (λ j. take j (drop (17 * i) input)) q
+    by : Dec (17 ≤ length rest) → (x ≡ take 17 rest) × (more ≡ drop 17 rest)
+    by (yes k) =
+        let m : length x ≡ 17 = omega arith in
+        (sym (ap (take 17) e ∙ take_at x more 17 m), sym (ap (drop 17) e ∙ drop_at x more 17 m))
     by (no k) =
-        let q : e - 17 * i ≡ length input - 17 * i = omega arith in
-        ap (λ j. take j (drop (17 * i) input)) q
-        ∙ take_all (length input - 17 * i) (drop (17 * i) input) (omega (arith, length-drop (17 * i) input))
-        ∙ sym (take_all 17 (drop (17 * i) input) (omega (arith, length-drop (17 * i) input)))
+        let m : length x ≡ length rest = omega arith in
+        let front : take (length rest) rest ≡ x = ap (take (length rest)) e ∙ take_at x more (length rest) m in
+        let behind : drop (length rest) rest ≡ more = ap (drop (length rest)) e ∙ drop_at x more (length rest) m in
+        (sym front ∙ take-length rest ∙ sym (take_all 17 rest (omega arith)), sym behind ∙ drop-length rest ∙ sym (drop_of_length-le rest {i = 17} (omega arith)))
 
 module _ {input output₀ output : List ℕ} {i : ℕ} (a : Answered input output₀ output i) (h : i < records input) where
   next : {ys : List ℕ} → ys ≡ answer_bytes (reply_to (take 17 (drop (17 * i) input))) → Answered input output₀ (put_mid (9 * i) 9 output ys) (i + 1)
@@ -59,20 +60,51 @@ module _ {input output₀ output : List ℕ} {i : ℕ} (a : Answered input outpu
         is = now;
       }
 
-  -- as the code lends the two parts
-  pub answered_next : {ys : List ℕ} {e : ℕ} {r : Done} → e ≡ min (17 * i + 17) (length input) → Responds (take (e - 17 * i) (drop (17 * i) input)) r ys →
-      Answered input output₀ (put_mid (9 * i) (9 * i + 9 - 9 * i) output ys) (i + 1)
-  answered_next {ys} {e} q p =
+  -- as the code lends the record and the part of the output
+  pub answered_next : {x ys : List ℕ} {r : Answer Unit} → x ≡ take 17 (drop (17 * i) input) → Responds x r ys → Answered input output₀ (put_mid (9 * i) (9 * i + 9 - 9 * i) output ys) (i + 1)
+  answered_next {x} {ys} q p =
       let k : 9 * i + 9 - 9 * i ≡ 9 = omega arith in
-      rw k (next (p.leaves_answer ∙ ap (λ l. answer_bytes (reply_to l)) (part_is input i e q (omega arith))))
+      rw k (next (p.leaves_answer ∙ ap (λ l. answer_bytes (reply_to l)) q))
 
-module _ (input output : List ℕ) {r : U64} where
-  pub many_refused : means_u64 r ≡ refused 10 → length output < 9 * records input → Many input output r output
+-- how many records there are, as the code counts them
+pub counted : (input : List ℕ) {n : ℕ} → n ≡ div_ceil (length input) 17 → n ≡ records input
+counted input e = omega arith
+
+-- the chunks that are left are the records from the i-th on
+pub record Left (input output₀ output rest : List ℕ) (size i : ℕ) : Type 0 where
+  pub answered : Answered input output₀ output i
+  pub is : rest ≡ drop (17 * i) input
+  pub by_record : size ≡ 17
+
+pub left_start : {input output rest : List ℕ} {size i : ℕ} → 9 * records input ≤ length output → rest ≡ input → size ≡ 17 → i ≡ 0 → Left input output output rest size i
+left_start {input} {output} h e n z = rw z (record { answered = answered_start input output h; is = e; by_record = n })
+
+module _ {input output₀ output rest : List ℕ} {size i : ℕ} (l : Left input output₀ output rest size i) where
+  -- a chunk is left, so a record is
+  pub left_more : 0 < length rest → i < records input
+  left_more h = let n : length rest ≡ length input - 17 * i = ap length l.is ∙ length-drop (17 * i) input in omega arith
+
+  pub left_next : {x more ys : List ℕ} {size' k i' : ℕ} {r : Answer Unit} → size' ≡ size → rest ≡ x ++ more → length x ≡ min size (length rest) → 0 < length rest → k ≡ i → i' ≡ i + 1 → Responds x r ys →
+      Left input output₀ (put_mid (9 * k) (9 * k + 9 - 9 * k) output ys) more size' i'
+  left_next {x} {more} s e n h at j p =
+      let (front, behind) = chunk_is x rest more e (n ∙ ap (λ k. min k (length rest)) l.by_record) in
+      let past : 17 * i + 17 ≡ 17 * (i + 1) = omega arith in
+      rw (at, j) (record {
+        answered = answered_next l.answered (left_more h) (front ∙ ap (take 17) l.is) p;
+        is = behind ∙ ap (drop 17) l.is ∙ drop-drop 17 (17 * i) input ∙ ap (λ k. drop k input) past;
+        by_record = s ∙ l.by_record;
+      })
+
+  pub left_none : length rest ≡ 0 → records input ≤ i
+  left_none h = let n : length rest ≡ length input - 17 * i = ap length l.is ∙ length-drop (17 * i) input in omega arith
+
+module _ (input output : List ℕ) {r : Answer ℕ} where
+  pub many_refused : means r ≡ refused 10 → length output < 9 * records input → Many input output r output
   many_refused e h =
       let no_room = lt-ltb (length output) (length (answers input)) (rw (length-answers (records input) input) h) in
       record { replies = e ∙ sym (rw no_room); leaves_output = sym (rw no_room) }
 
-  pub many_answered : {output' : List ℕ} {i : ℕ} → means_u64 r ≡ gives (9 * records input) → records input ≤ i →
+  pub many_answered : {output' : List ℕ} {i : ℕ} → means r ≡ gives (9 * records input) → records input ≤ i →
       Answered input output output' i → Many input output r output'
   many_answered {output'} {i} e k a =
       let n : i ≡ records input = le_antisymm a.within k in
@@ -84,7 +116,7 @@ module _ (input output : List ℕ) {r : U64} where
       }
 
 -- the bytes that `many` says it wrote lie within the output
-pub many_within : {input output output' : List ℕ} {r : U64} {n : ℕ} → Many input output r output' → means_u64 r ≡ gives n → n ≤ length output'
+pub many_within : {input output output' : List ℕ} {r : Answer ℕ} {n : ℕ} → Many input output r output' → means r ≡ gives n → n ≤ length output'
 many_within {input} {output} {output'} {n = n} p e =
     let reply : many_reply input output ≡ gives n = sym p.replies ∙ e in
     let (c, q) = accepted_only_if (row 10 (ltb (length output) (length (answers input))) ∷ []) reply in

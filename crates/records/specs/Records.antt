@@ -2,9 +2,7 @@
 use Rattle.std.specs.Prelude.{◌≡◌, not, List, [], ◌∷◌, ◌++◌, ℕ, zero, suc, ◌+◌, ◌/◌, ltb, eqb, length, get_or, take, drop}
 use Rattle.fields.specs.Fields.{encode, decode}
 use Rattle.answers.specs.Reply.{Reply, gives, refusal_of, natural, mapped, Row, row, unless, leaves}
-use Rattle.answers.specs.Answers.{means_done, means_u64}
-use Rattle.answers.specs.declared.Done.{Done}
-use Rattle.answers.specs.declared.U64.{U64}
+use Rattle.answers.specs.Answers.{Answer, means}
 use Rattle.operations.specs.Operations.{answer_of}
 
 -- operation, width, a, b: 17 bytes
@@ -26,8 +24,8 @@ unfoldable pub answer_bytes : Reply ℕ → List ℕ
 answer_bytes r = encode answer_layout (refusal_of r ∷ 0 ∷ natural r ∷ [])
 
 -- the answer's bytes, and what was refused
-pub record Responds (asked : List ℕ) (r : Done) (answer' : List ℕ) : Type 0 where
-  pub replies : means_done r ≡ mapped (λ _. tt) (reply_to asked)
+pub record Responds (asked : List ℕ) (r : Answer Unit) (answer' : List ℕ) : Type 0 where
+  pub replies : means r ≡ mapped (λ _. tt) (reply_to asked)
   pub leaves_answer : answer' ≡ answer_bytes (reply_to asked)
 
 -- ---- one record: where it or its answer is of wrong length, the answer stays
@@ -45,8 +43,8 @@ one_reply asked answer = unless (length_rows asked answer) (mapped (λ _. tt) (r
 abbrev pub answered : List ℕ → List ℕ → List ℕ
 answered asked answer = leaves (length_reply asked answer) (answer_bytes (reply_to asked)) answer
 
-pub record One (asked answer : List ℕ) (r : Done) (answer' : List ℕ) : Type 0 where
-  pub replies : means_done r ≡ one_reply asked answer
+pub record One (asked answer : List ℕ) (r : Answer Unit) (answer' : List ℕ) : Type 0 where
+  pub replies : means r ≡ one_reply asked answer
   pub leaves_answer : answer' ≡ answered asked answer
 
 -- ---- many records, one after the other, the last of them perhaps too short
@@ -67,6 +65,6 @@ answers input = answers_to (records input) input
 abbrev pub many_reply : List ℕ → List ℕ → Reply ℕ
 many_reply input output = unless (row 10 (ltb (length output) (length (answers input))) ∷ []) (gives (length (answers input)))
 
-pub record Many (input output : List ℕ) (r : U64) (output' : List ℕ) : Type 0 where
-  pub replies : means_u64 r ≡ many_reply input output
+pub record Many (input output : List ℕ) (r : Answer ℕ) (output' : List ℕ) : Type 0 where
+  pub replies : means r ≡ many_reply input output
   pub leaves_output : output' ≡ leaves (many_reply input output) (answers input ++ drop (length (answers input)) output) output

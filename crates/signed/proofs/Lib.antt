@@ -4,7 +4,6 @@ pub mod Range
 pub mod Wrap
 pub mod Strict
 pub mod Rem
-pub mod Signs
 pub mod Next
 pub mod Words
 pub mod Accepts

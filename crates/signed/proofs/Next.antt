@@ -1,24 +1,22 @@
 -- The next multiple, over the width: the code's m is the remainder with the divisor's sign, and d − m the way from a. Assumes nothing.
 use mathlib.Core.Path.{◌≡◌, refl, sym, ap, ◌∙◌, subst}
 use mathlib.Core.Bool.{Bool, true, false, cond, ◌&&◌, ◌||◌}
-use mathlib.Core.Logic.{◌⊎◌, ⊎_elim}
 use Prim.Native.Nat.{ℕ, zero, suc, ◌+◌, ◌-◌, ◌%◌, ◌^◌, ◌<◌}
 use native.Mathlib.Nat.{mod-eq_of_lt, mod-eq-sub-mod, zero-mod, mod-one}
 use native.Mathlib.Omega.{arith}
 use borrow.Author.Tests.{lt-ltb, le-ltb}
-use lib.IntN.{ℤ, pos, negsuc, neg_ℤ, nat_abs, ◌+ℤ◌, ◌-ℤ◌, +ℤ_idr, +ℤ_invl, neg_ℤ-+ℤ, neg_ℤ-neg_ℤ, pos-ne-negsuc}
+use lib.IntN.{ℤ, pos, negsuc, neg_ℤ, nat_abs, ◌+ℤ◌, ◌-ℤ◌, +ℤ_idr, +ℤ_invl, neg_ℤ-+ℤ, neg_ℤ-neg_ℤ}
 use lib.Signed.{lt_z, rem_z}
 use mir.Syntax.{Width}
-use mir.Val.{hbits, SFits, to_z, of_z}
+use mir.Val.{hbits, SFits}
 use Rattle.answers.specs.Reply.{gives, refused}
-use Rattle.laws.proofs.Held.{held, is_held, both_held, by_bits, zero_fits, minus_one_fits}
 use Rattle.laws.proofs.Order.{by_order, sub_cases, pos-minus}
 use Rattle.laws.proofs.Tests.{and-false, and-true, or-false}
-use Rattle.signed.specs.Signed.{mod_z, opposite, exact, next, next_multiple}
-use Rattle.signed.specs.Accepts.{Divides}
+use Rattle.signed.specs.Signed.{mod_z, opposite, exact, wrap, next, next_multiple}
 use Rattle.signed.proofs.ModZ.{below, mod-add}
+use Rattle.signed.proofs.Wrap.{wrap_fits}
 use Rattle.signed.proofs.Strict.{exact_fits, neg_flag}
-use Rattle.signed.proofs.Rem.{eq_z_no, some, rem_kept, rem_raised, left_held}
+use Rattle.signed.proofs.Rem.{eq_z_no, rem_kept, rem_raised}
 
 -- ---- −a and a modulo m: both 0, or m together
 
@@ -69,7 +67,7 @@ a_gap a (negsuc k) p n =
     sym (neg_ℤ-+ℤ (pos (suc k)) (neg_ℤ (pos (mod_z (neg_ℤ a) (suc k)))))
     ∙ ap neg_ℤ (rest_left (suc k) p (neg_ℤ a) (λ e. n (ap (λ x. neg_ℤ (pos x)) e)) ∙ ap (λ z. pos (mod_z z (suc k))) (neg_ℤ-neg_ℤ a))
 
--- both are smaller than d, so they fit where d does
+-- the way is shorter than d, so it fits where d does
 minus_fits : (w : Width) (n : ℕ) → n < 2 ^ hbits w → SFits w (neg_ℤ (pos n))
 minus_fits w zero h = record { sfits = h }
 minus_fits w (suc n) h = record { sfits = omega arith }
@@ -78,11 +76,6 @@ gap_small : (w : Width) (a d : ℤ) → 0 < nat_abs d → SFits w d → SFits w 
 unfolding gap
 gap_small w a (pos k) p f = record { sfits = omega (arith, f.sfits, below k p (neg_ℤ a)) }
 gap_small w a (negsuc k) p f = minus_fits w (mod_z a (suc k)) (omega (arith, f.sfits, below (suc k) p a))
-
-signed_rem_small : (w : Width) (a d : ℤ) → 0 < nat_abs d → SFits w d → SFits w (signed_rem a d)
-unfolding signed_rem
-signed_rem_small w a (pos k) p f = record { sfits = omega (arith, f.sfits, below k p a) }
-signed_rem_small w a (negsuc k) p f = minus_fits w (mod_z (neg_ℤ a) (suc k)) (omega (arith, f.sfits, below (suc k) p (neg_ℤ a)))
 
 -- ---- the code's m: the machine's remainder r, with d added where their signs differ
 
@@ -136,60 +129,39 @@ by_one : (a : ℤ) → mod_z a 1 ≡ 0
 by_one (pos n) = mod-one n
 by_one (negsuc n) = omega arith
 
-module _ {w : Width} {a d : ℤ} (fa : SFits w a) (fd : SFits w d) where
-  pub next_by_zero : of_z w d ≡ 0 → refused 3 ≡ next_multiple w a d
-  next_by_zero e = sym (next-zero w a d (by_bits (pos 0) fd (zero_fits w) e))
+-- the code's m, of the machine's remainder r
+abbrev pub turned : ℤ → ℤ → ℤ
+turned r d = cond (opposite r d) (r +ℤ d) r
+
+module _ (w : Width) (a d : ℤ) (p : 0 < nat_abs d) where
+  nonzero : d ≡ pos 0 → ⊥
+  nonzero e = omega (arith, ap nat_abs e)
+
+  turned_is : turned (rem_z a d) d ≡ signed_rem a d
+  turned_is = by (opposite (rem_z a d) d) refl
+    where
+      by : (t : Bool) → opposite (rem_z a d) d ≡ t → cond t (rem_z a d +ℤ d) (rem_z a d) ≡ signed_rem a d
+      by true e = joined a d p e
+      by false e = kept a d p e
 
   -- a is the answer where it is the next multiple itself
-  itself : (d ≡ pos 0 → ⊥) → gap a d ≡ pos 0 → gives (held w a) ≡ next_multiple w a d
-  itself n e =
-      ap gives (is_held fa)
-      ∙ sym (next_value w a d n ∙ ap (exact w) (next_gap a d ∙ ap (λ z. a +ℤ z) e ∙ +ℤ_idr a) ∙ exact_fits w a fa)
+  stays : gap a d ≡ pos 0 → SFits w a → next_multiple w a d ≡ gives a
+  stays e f = next_value w a d nonzero ∙ ap (exact w) (next_gap a d ∙ ap (λ z. a +ℤ z) e ∙ +ℤ_idr a) ∙ exact_fits w a f
 
-  pub next_by_minus_one : of_z w d ≡ of_z w (negsuc 0) → gives (held w a) ≡ next_multiple w a d
-  unfolding gap
-  next_by_minus_one e =
-      let one : d ≡ negsuc 0 = by_bits (negsuc 0) fd (minus_one_fits w) e in
-      itself (λ z. pos-ne-negsuc 0 0 (sym z ∙ one)) (ap (gap a) one ∙ ap (λ n. neg_ℤ (pos n)) (by_one a))
+  pub next_stays : SFits w a → turned (rem_z a d) d ≡ pos 0 → next_multiple w a d ≡ gives a
+  next_stays f e = stays (no_gap a d p (sym turned_is ∙ e)) f
 
-  module _ (v : Divides w a d) where
-    has : 0 < nat_abs d
-    has = some d v.by_some
+  step_is : (turned (rem_z a d) d ≡ pos 0 → ⊥) → d -ℤ turned (rem_z a d) d ≡ gap a d
+  step_is n = ap (λ z. d -ℤ z) turned_is ∙ a_gap a d p (λ e. n (turned_is ∙ e))
 
-    abbrev left : ℤ
-    left = rem_z (held w a) (held w d)
+  pub step_fits : SFits w d → (turned (rem_z a d) d ≡ pos 0 → ⊥) → SFits w (d -ℤ turned (rem_z a d) d)
+  step_fits f n = subst (SFits w) (sym (step_is n)) (gap_small w a d p f)
 
-    flag : {t : Bool} → opposite (held w left) (held w d) ≡ t → opposite (rem_z a d) d ≡ t
-    flag e = sym (ap (λ r. opposite r (held w d)) (left_held fa fd v) ∙ ap (opposite (rem_z a d)) (is_held fd)) ∙ e
+  pub next_steps : SFits w d → (turned (rem_z a d) d ≡ pos 0 → ⊥) → next_multiple w a d ≡ exact w (a +ℤ wrap w (d -ℤ turned (rem_z a d) d))
+  next_steps f n =
+      next_value w a d nonzero ∙ ap (exact w) (next_gap a d)
+      ∙ ap (λ z. exact w (a +ℤ z)) (sym (ap (wrap w) (step_is n) ∙ wrap_fits w (gap a d) (gap_small w a d p f)))
 
-    joined_is : opposite (held w left) (held w d) ≡ true → held w left +ℤ held w d ≡ signed_rem a d
-    joined_is e = ap (λ r. r +ℤ held w d) (left_held fa fd v) ∙ ap (λ z. rem_z a d +ℤ z) (is_held fd) ∙ joined a d has (flag e)
-
-    signed_rem_fits : SFits w (signed_rem a d)
-    signed_rem_fits = signed_rem_small w a d has fd
-
-    pub joined_fits : opposite (held w left) (held w d) ≡ true → SFits w (held w left +ℤ held w d)
-    joined_fits e = subst (SFits w) (sym (joined_is e)) signed_rem_fits
-
-    -- m's bits, as they come from either arm
-    module _ {m : ℕ} {t : Bool} (test : t ≡ opposite (held w left) (held w d)) (came : ((t ≡ true) × (m ≡ of_z w (held w left +ℤ held w d))) ⊎ ((t ≡ false) × (m ≡ of_z w left))) where
-      m_is : m ≡ of_z w (signed_rem a d)
-      m_is = ⊎_elim
-          (λ c. c.1 ∙ ap (of_z w) (joined_is (sym test ∙ c.0)))
-          (λ c. c.1 ∙ ap (of_z w) (both_held rem_z fa fd ∙ kept a d has (flag (sym test ∙ c.0)))) came
-
-      pub next_here : m ≡ 0 → gives (held w a) ≡ next_multiple w a d
-      next_here e = itself v.by_some (no_gap a d has (by_bits (pos 0) signed_rem_fits (zero_fits w) (sym m_is ∙ e)))
-
-      gap_is : (m ≡ 0 → ⊥) → held w d -ℤ to_z w m ≡ gap a d
-      gap_is n =
-          ap (λ z. z -ℤ to_z w m) (is_held fd) ∙ ap (λ z. d -ℤ z) (ap (to_z w) m_is ∙ is_held signed_rem_fits)
-          ∙ a_gap a d has (λ e. n (m_is ∙ ap (of_z w) e))
-
-      pub gap_fits : (m ≡ 0 → ⊥) → SFits w (held w d -ℤ to_z w m)
-      gap_fits n = subst (SFits w) (sym (gap_is n)) (gap_small w a d has fd)
-
-      pub next_ahead : (m ≡ 0 → ⊥) → exact w (held w a +ℤ held w (held w d -ℤ to_z w m)) ≡ next_multiple w a d
-      next_ahead n =
-          both_held (λ x y. exact w (x +ℤ y)) fa (gap_fits n) ∙ ap (λ z. exact w (a +ℤ z)) (gap_is n)
-          ∙ ap (exact w) (sym (next_gap a d)) ∙ sym (next_value w a d v.by_some)
+pub next_alone : (w : Width) (a d : ℤ) → SFits w a → d ≡ negsuc 0 → next_multiple w a d ≡ gives a
+unfolding gap
+next_alone w a d f e = stays w a d (omega (arith, ap nat_abs e)) (ap (gap a) e ∙ ap (λ n. neg_ℤ (pos n)) (by_one a)) f

@@ -5,18 +5,16 @@ use Prim.Native.Nat.{ℕ, zero, suc, ◌+◌, ◌-◌, ◌^◌, ◌≤◌, ◌<�
 use native.Mathlib.Nat.{mod-eq_of_lt}
 use native.Mathlib.Omega.{arith}
 use borrow.Author.Tests.{lt-ltb, le-ltb, le-leb, lt-leb, leb-false}
-use lib.Pow.{pow_pos}
-use lib.IntN.{ℤ, pos, negsuc, neg_ℤ, nat_abs, ◌+ℤ◌, ◌-ℤ◌, +ℤ_idl}
+use lib.IntN.{ℤ, pos, negsuc, neg_ℤ, nat_abs, ◌+ℤ◌, ◌-ℤ◌}
 use lib.Signed.{mag, lt_z, nat_abs-le}
 use mir.Syntax.{Width}
-use mir.Val.{bits, hbits, SFits, to_z, of_z, sel}
+use mir.Val.{bits, hbits, SFits, to_z, sel}
 use mir.ValLaws.{pow-bits, to_z_pos}
-use Rattle.answers.specs.Reply.{Reply, gives, refused}
-use Rattle.laws.proofs.Held.{held, is_held, both_held, by_bits, tested, from_zero, below_zero}
+use Rattle.answers.specs.Reply.{gives, refused}
+use Rattle.laws.proofs.Held.{from_zero}
 use Rattle.laws.proofs.Order.{by_order, sub_cases}
-use Rattle.signed.specs.Signed.{min_z, absolute, outside, exact, wrap, Overflows}
-use Rattle.signed.proofs.Range.{min_fits}
-use Rattle.signed.proofs.Wrap.{wrap_fits, wrap_held}
+use Rattle.signed.specs.Signed.{absolute, outside, exact, wrap}
+use Rattle.signed.proofs.Wrap.{wrap_fits}
 
 -- ---- the exact number, by whether the width holds it
 
@@ -28,15 +26,12 @@ pub exact_not : (w : Width) (z : ℤ) → outside w z ≡ true → exact w z ≡
 unfolding exact
 exact_not w z e = ap (λ t. cond t (refused 4) (gives z)) e
 
--- what the strict forms make of an overflowing one, whose number z' is z
-module _ {w : Width} {z z' v : ℤ} {t : Bool} (same : z' ≡ z) (o : Overflows w z' v t) where
-  pub strict_refused : t ≡ true → refused 4 ≡ exact w z
-  strict_refused e = sym (ap (exact w) (sym same) ∙ exact_not w z' (sym o.flagged ∙ e))
+pub exact_given : (w : Width) (z : ℤ) → outside w z ≡ false → exact w z ≡ gives (wrap w z)
+exact_given w z e =
+    let f : SFits w z = record { sfits = leb-false (2 ^ hbits w) (mag z) e } in exact_fits w z f ∙ ap gives (sym (wrap_fits w z f))
 
-  pub strict_given : t ≡ false → gives (held w v) ≡ exact w z
-  strict_given e =
-      let f : SFits w z' = record { sfits = leb-false (2 ^ hbits w) (mag z') (sym o.flagged ∙ e) } in
-      ap (λ x. gives (held w x)) o.wrapped ∙ ap gives (wrap_held w z' ∙ wrap_fits w z' f) ∙ sym (exact_fits w z' f) ∙ ap (exact w) same
+pub exact_above : (w : Width) (a : ℤ) → SFits w a → lt_z a (pos 0) ≡ false → exact w (absolute a) ≡ gives a
+exact_above w a f e = ap (exact w) (sym (from_zero a e)) ∙ exact_fits w a f
 
 -- ---- the side of a on which the wrapped sum lies
 
@@ -57,12 +52,6 @@ pub neg_flag : (b : ℤ) → lt_z (neg_ℤ b) (pos 0) ≡ lt_z (pos 0) b
 neg_flag (pos zero) = refl
 neg_flag (pos (suc n)) = sym (lt-ltb 0 (suc n) (omega arith))
 neg_flag (negsuc n) = le-ltb (suc n) 0 (omega arith)
-
--- −b fits where b does, but for MIN
-neg_fits : (w : Width) (b : ℤ) → SFits w b → (b ≡ min_z w → ⊥) → SFits w (neg_ℤ b)
-neg_fits w (pos zero) f n = f
-neg_fits w (pos (suc k)) f n = record { sfits = omega (arith, f.sfits) }
-neg_fits w (negsuc k) f n = by_order (suc k) (2 ^ hbits w) (λ h. record { sfits = h }) (λ h. absurd (n (ap negsuc (omega (arith, f.sfits)))))
 
 neg-abs : (b : ℤ) → nat_abs (neg_ℤ b) ≡ nat_abs b
 neg-abs (pos zero) = refl
@@ -117,70 +106,13 @@ module _ (w : Width) where
       (λ h. refuse (negsuc x) (negsuc y) (negsuc (suc (x + y))) true h refl
       (ap (λ z. lt_z z (negsuc x)) (too_low w (suc (x + y)) h (omega (arith, pow-bits w)))))
 
--- ---- what the overflowing forms give
-
-module _ {w : Width} {a b r : ℤ} (fa : SFits w a) (fb : SFits w b) where
-  -- r is the wrapped z, and the code's flag, of b''s sign, says whether z is outside
-  overflows : (z b' : ℤ) (t : Bool) → r ≡ wrap w z → t ≡ lt_z b' (pos 0) → wrong_side (lt_z b' (pos 0)) (wrap w z) a ≡ outside w z →
-      Overflows w z (held w r) (wrong_side t (held w r) (held w a))
-  overflows z b' t er et h =
-      let value : held w r ≡ wrap w z = ap (held w) er ∙ wrap_held w z in
-      record {
-        wrapped = value;
-        flagged =
-            ap (λ u. wrong_side u (held w r) (held w a)) et
-            ∙ ap (λ v. wrong_side (lt_z b' (pos 0)) v (held w a)) value ∙ ap (wrong_side (lt_z b' (pos 0)) (wrap w z)) (is_held fa) ∙ h;
-      }
-
-  pub sum_overflows : r ≡ wrap w (held w a +ℤ held w b) → Overflows w (a +ℤ b) (held w r) (wrong_side (lt_z (held w b) (pos 0)) (held w r) (held w a))
+  -- the flags of the sum and of the difference say whether the exact number is outside
+  pub sum_flag : (a b : ℤ) → SFits w a → SFits w b → wrong_side (lt_z b (pos 0)) (wrap w (a +ℤ b)) a ≡ outside w (a +ℤ b)
   unfolding Right
-  sum_overflows e =
-      overflows (a +ℤ b) b (lt_z (held w b) (pos 0)) (e ∙ both_held (λ x y. wrap w (x +ℤ y)) fa fb) (ap (λ z. lt_z z (pos 0)) (is_held fb))
-      (right w a b fa.sfits (nat_abs-le b fb.sfits))
+  sum_flag a b fa fb = right a b fa.sfits (nat_abs-le b fb.sfits)
 
-  pub difference_overflows : r ≡ wrap w (held w a -ℤ held w b) → Overflows w (a -ℤ b) (held w r) (wrong_side (lt_z (pos 0) (held w b)) (held w r) (held w a))
+  pub difference_flag : (a b : ℤ) → SFits w a → SFits w b → wrong_side (lt_z (pos 0) b) (wrap w (a -ℤ b)) a ≡ outside w (a -ℤ b)
   unfolding Right
-  difference_overflows e =
-      overflows (a -ℤ b) (neg_ℤ b) (lt_z (pos 0) (held w b)) (e ∙ both_held (λ x y. wrap w (x -ℤ y)) fa fb) (ap (lt_z (pos 0)) (is_held fb) ∙ sym (neg_flag b))
-      (right w a (neg_ℤ b) fa.sfits (subst (λ n. n ≤ 2 ^ hbits w) (sym (neg-abs b)) (nat_abs-le b fb.sfits)))
-
-module _ {w : Width} {a : ℤ} (fa : SFits w a) where
-  pub negation_overflows : {v : ℤ} {t : Bool} → Overflows w (pos 0 -ℤ held w a) v t → Overflows w (neg_ℤ a) v t
-  negation_overflows o =
-      let same : pos 0 -ℤ held w a ≡ neg_ℤ a = ap (λ z. pos 0 -ℤ z) (is_held fa) ∙ +ℤ_idl (neg_ℤ a) in
-      record { wrapped = o.wrapped ∙ ap (wrap w) same; flagged = o.flagged ∙ ap (outside w) same }
-
-  -- −a, which the machine makes as 0 − a
-  negated_is : pos 0 -ℤ held w a ≡ neg_ℤ a
-  negated_is = ap (λ z. pos 0 -ℤ z) (is_held fa) ∙ +ℤ_idl (neg_ℤ a)
-
-  pub min_overflows : of_z w a ≡ of_z w (min_z w) → Overflows w (neg_ℤ a) (min_z w) true
-  min_overflows e =
-      let is : neg_ℤ a ≡ pos (2 ^ hbits w) = ap neg_ℤ (by_bits (min_z w) fa (min_fits w) e) ∙ ap pos (omega (arith, pow_pos (hbits w))) in
-      record {
-        wrapped =
-            sym (ap (wrap w) is ∙ too_high w (2 ^ hbits w) (omega arith) (omega (arith, pow-bits w, pow_pos (hbits w)))
-            ∙ ap negsuc (omega (arith, pow-bits w)));
-        flagged = sym (ap (outside w) is ∙ le-leb (2 ^ hbits w) (2 ^ hbits w) (omega arith));
-      }
-
-  module _ (n : of_z w a ≡ of_z w (min_z w) → ⊥) where
-    other_fits : SFits w (neg_ℤ a)
-    other_fits = neg_fits w a fa (λ e. n (ap (of_z w) e))
-
-    pub negation_fits : SFits w (pos 0 -ℤ held w a)
-    negation_fits = subst (SFits w) (sym negated_is) other_fits
-
-    pub negation_given : Overflows w (neg_ℤ a) (held w (pos 0 -ℤ held w a)) false
-    negation_given = record {
-      wrapped = is_held negation_fits ∙ negated_is ∙ sym (wrap_fits w (neg_ℤ a) other_fits);
-      flagged = sym (lt-leb (2 ^ hbits w) (mag (neg_ℤ a)) other_fits.sfits);
-    }
-
-  pub strict_below : {m : Reply ℤ} → lt_z (held w a) (pos 0) ≡ true → m ≡ exact w (neg_ℤ (held w a)) → m ≡ exact w (absolute a)
-  strict_below e h =
-      h ∙ ap (λ z. exact w (neg_ℤ z)) (is_held fa ∙ below_zero a (tested fa e))
-      ∙ ap (λ z. exact w (absolute z)) (sym (below_zero a (tested fa e)))
-
-  pub strict_above : lt_z (held w a) (pos 0) ≡ false → gives (held w a) ≡ exact w (absolute a)
-  strict_above e = ap gives (is_held fa) ∙ sym (ap (exact w) (sym (from_zero a (tested fa e))) ∙ exact_fits w a fa)
+  difference_flag a b fa fb =
+      ap (λ t. wrong_side t (wrap w (a -ℤ b)) a) (sym (neg_flag b))
+      ∙ right a (neg_ℤ b) fa.sfits (subst (λ n. n ≤ 2 ^ hbits w) (sym (neg-abs b)) (nat_abs-le b fb.sfits))

@@ -1,29 +1,23 @@
--- What `feed` and `end` promise, from what their check says and what they do.
-use mathlib.Core.Path.{◌≡◌, refl, sym, ap, ◌∙◌}
-use mathlib.Core.List.{List}
+-- What `feed` and `end` promise, from the check of the count and what `records::many` promises of the answers.
+use mathlib.Core.Path.{◌≡◌, refl, sym, ap, ◌∙◌, subst}
+use mathlib.Core.Bool.{Bool, true, false, cond}
+use mathlib.Core.List.{List, [], ◌∷◌, ◌++◌}
 use Prim.Native.Nat.{ℕ, ◌≤◌}
-use borrow.Author.Tests.{lt-ltb, le-ltb, ltb-false}
-use lib.ListN.{length}
-use Rattle.laws.proofs.Order.{by_order}
-use Rattle.answers.specs.Reply.{Reply, gives, unless, leaves}
-use Rattle.answers.specs.Answers.{means_done, means_u64}
+use borrow.Author.Tests.{le-ltb, ltb-false}
+use lib.Dec.{ltb}
+use Rattle.std.specs.Prelude.{Err}
+use Rattle.answers.specs.Reply.{Reply, gives, refused, row, unless, leaves}
+use Rattle.answers.specs.Answers.{Answer, number_of, means}
 use Rattle.answers.specs.declared.Refusal.{Refusal}
-use Rattle.answers.specs.declared.Done.{Done}
-use Rattle.answers.specs.declared.U64.{U64}
-use Rattle.answers.proofs.Rows.{Clear, accepted_if, accepted_only_if, passes_on}
-use Rattle.records.specs.Records.{answers}
+use Rattle.answers.proofs.Rows.{Clear, clash}
+use Rattle.records.specs.Records.{many_reply, Many}
 use Rattle.stream.specs.declared.Stream.{Stream}
-use Rattle.stream.specs.declared.Fed.{Fed}
-use Rattle.stream.specs.Stream.{keeping, in_front, take_rows, take_reply, Takes, Checks}
+use Rattle.stream.specs.Stream.{outcome, kept, kept_reply, keeping, whole, rest, in_front, take_rows, take_reply, Takes, Feeds, Ends}
 
 -- the count is at most 16, and there is room for answers of a size
 pub record Free (count size room : ℕ) : Type 0 where
   pub short : count ≤ 16
   pub enough : size ≤ room
-
--- past 16 the size decides nothing
-same_rows : (count size room : ℕ) {n : ℕ} (q : Reply ℕ) → (count ≤ 16 → size ≡ n) → unless (take_rows count size room) q ≡ unless (take_rows count n room) q
-same_rows count size room q e = by_order 16 count (λ h. rw (lt-ltb 16 count h)) (λ h. rw (e h))
 
 module _ {count size room : ℕ} where
   pub rows_clear : Free count size room → Clear (take_rows count size room)
@@ -32,32 +26,49 @@ module _ {count size room : ℕ} where
   pub clear_rows : Clear (take_rows count size room) → Free count size room
   clear_rows c = record { short = ltb-false 16 count c.0; enough = ltb-false room size c.1.0 }
 
-  -- what the check says
-  pub free : {r : Done} → Checks count size room r → r ≡ Done.Accepted → Free count size room
-  free p e = clear_rows (accepted_only_if (take_rows count size room) (sym p.replies ∙ ap means_done e)).0
+module _ (s : Stream) where
+  -- accepted, the count is at most 16, and these are its bytes
+  pub counted : {b : List ℕ} → gives b ≡ kept_reply s → (ltb 16 s.count ≡ false) × (b ≡ kept s)
+  counted {b} e = go (ltb 16 s.count) e
+    where
+      go : (t : Bool) → gives b ≡ cond t (refused 13) (gives (kept s)) → (t ≡ false) × (b ≡ kept s)
+      go true e = absurd (clash (sym e))
+      go false e = (refl, (let same : b ≡ kept s = cc in same))
 
-abbrev pub made : Stream → U64 → Fed
-made s r = record { state = s; reply = r }
+  -- refused, it is refused whatever follows
+  miscounted : {k : ℕ} {B : Type 0} (q : Reply B) → refused k ≡ kept_reply s → refused k ≡ unless (row 13 (ltb 16 s.count) ∷ []) q
+  miscounted {k} q e = go (ltb 16 s.count) e
+    where
+      go : (t : Bool) → refused k ≡ cond t (refused 13) (gives (kept s)) → refused k ≡ cond t (refused 13) q
+      go true e = let same : k ≡ 13 = cc in ap refused same
+      go false e = absurd (clash e)
 
-module _ {s : Stream} {input left output : List ℕ} where
-  -- a call replies as its check does, and acts by that reply
-  acts : {r : U64} {next : Stream} {output' : List ℕ} → means_u64 r ≡ take_reply s input output →
-      next ≡ leaves (means_u64 r) (keeping left) s → output' ≡ leaves (means_u64 r) (in_front input output) output → Takes s input left output (made next r) output'
-  acts e f g = record {
-    replies = e;
-    next_state = f ∙ ap (λ m. leaves m (keeping left) s) e;
-    leaves_output = g ∙ ap (λ m. leaves m (in_front input output) output) e;
-  }
+-- a call acts by its reply
+acts : {s : Stream} {input left output : List ℕ} {r : Answer ℕ} {next : Stream} {output' : List ℕ} → means r ≡ take_reply s input output →
+    next ≡ leaves (means r) (keeping left) s → output' ≡ leaves (means r) (in_front input output) output → Takes s input left output (outcome next r) output'
+acts {s} {input} {left} {output} e f g = record {
+  replies = e;
+  next_state = f ∙ ap (λ m. leaves m (keeping left) s) e;
+  leaves_output = g ∙ ap (λ m. leaves m (in_front input output) output) e;
+}
 
-  pub call_refused : {size : ℕ} {r : Done} {why : Refusal} → (s.count ≤ 16 → size ≡ length (answers input)) →
-      Checks s.count size (length output) r → r ≡ Done.Refused why → Takes s input left output (made s (U64.Refused why)) output
+-- where the count is refused the call is
+pub count_refused : {s : Stream} {input left output : List ℕ} {why : Refusal} → refused (number_of why) ≡ kept_reply s → Takes s input left output (outcome s (Err why)) output
+unfolding take_reply
+count_refused {s} {input} {output = output} e = acts (miscounted s (many_reply input output) e) refl refl
+
+-- where it is accepted the call replies as the answers do
+module _ {s : Stream} {b : List ℕ} (is : gives b ≡ kept_reply s) {output : List ℕ} {r : Answer ℕ} {next : Stream} {output' : List ℕ} where
+  accepted : {input left : List ℕ} → Many input output r output' → next ≡ leaves (means r) (keeping left) s → Takes s input left output (outcome next r) output'
   unfolding take_reply
-  call_refused {size} n p e =
-      let rows = take_rows s.count size (length output) in
-      acts (passes_on rows (λ _. length (answers input)) (gives (length (answers input))) (ap means_done (sym e) ∙ p.replies) tt ∙ same_rows s.count size (length output) (gives (length (answers input))) n) refl refl
+  accepted {input} p f =
+      acts (p.replies ∙ sym (ap (λ t. cond t (refused 13) (many_reply input output)) (counted s is).0)) f
+      (p.leaves_output ∙ ap (λ m. leaves m (in_front input output) output) (sym p.replies))
 
-  pub call_accepted : {size : ℕ} {next : Stream} {output' : List ℕ} → Free s.count size (length output) → size ≡ length (answers input) →
-      next ≡ keeping left → output' ≡ in_front input output → Takes s input left output (made next (U64.Number size)) output'
-  unfolding take_reply
-  call_accepted {size} ok n f g =
-      acts (ap gives n ∙ sym (accepted_if (take_rows s.count size (length output)) (rows_clear ok)) ∙ same_rows s.count size (length output) (gives (length (answers input))) (λ _. n)) f g
+  pub feed_accepted : (fragment : List ℕ) {input : List ℕ} → input ≡ b ++ fragment → Many (whole input) output r output' →
+      next ≡ leaves (means r) (keeping (rest input)) s → Feeds s fragment output (outcome next r) output'
+  feed_accepted fragment e p f =
+      subst (λ i. Takes s (whole i) (rest i) output (outcome next r) output') (e ∙ ap (λ l. l ++ fragment) (counted s is).1) (accepted p f)
+
+  pub end_accepted : Many b output r output' → next ≡ leaves (means r) (keeping []) s → Ends s output (outcome next r) output'
+  end_accepted p f = accepted (subst (λ l. Many l output r output') (counted s is).1 p) f

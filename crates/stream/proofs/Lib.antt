@@ -1,4 +1,5 @@
 -- The laws that the proofs cite.
+pub mod Zeros
 pub mod Records
 pub mod Whole
 pub mod Parts

@@ -5,15 +5,11 @@ use Prim.Native.Nat.{ℕ}
 use native.Mathlib.Omega.{arith}
 use lib.ListN.{length, get_or, set, take, drop, replicate, take-append-drop}
 use lib.Seq.{drop-length, drop-cons, set_at}
-use Rattle.answers.specs.Reply.{refusal_of, natural, leaves}
-use Rattle.answers.specs.Answers.{number_of, means_u64}
-use Rattle.answers.specs.declared.Refusal.{Refusal}
-use Rattle.answers.specs.declared.U64.{U64}
+use Rattle.answers.specs.Reply.{Reply, gives, refused, refusal_of, natural, leaves}
+use Rattle.answers.specs.Answers.{Answer, means}
 use Rattle.stream.specs.declared.Stream.{Stream}
-use Rattle.stream.specs.declared.Fed.{Fed}
-use Rattle.stream.specs.Stream.{keeping, Takes, Feeds, Ends}
-use Rattle.stream.specs.Packed.{state_of, bytes_of, Tells, Told, ToldFeed, ToldEnd}
-use Rattle.stream.proofs.Accepts.{state_by}
+use Rattle.stream.specs.Stream.{outcome, keeping, take_reply, Takes, Feeds, Ends}
+use Rattle.stream.specs.Packed.{state_of, bytes_of, Told, ToldFeed, ToldEnd}
 
 -- `pack`: 16 bytes are copied over zeros, and then their count
 pub packed : (s : Stream) {k : List ℕ} → length s.bytes ≡ 16 → k ≡ s.bytes → set (k ++ (0 ∷ [])) 16 s.count ≡ bytes_of s
@@ -33,29 +29,25 @@ zeros_fresh = refl
 
 -- ---- a call on the state that bytes are, told in C
 
-told : {b input left output : List ℕ} {r : Fed} {output' : List ℕ} → Takes (state_of b) input left output r output' →
-    {k n : ℕ} {b' : List ℕ} → Tells r b k n b' → Told b input left output k n b' output'
-told {b} {left = left} {r = r} p t = record {
-  returns = t.returns ∙ ap refusal_of p.replies;
-  leaves_written = t.leaves_written ∙ ap natural p.replies;
-  leaves_state = t.leaves_state ∙ by r.reply refl ∙ ap (λ m. leaves m (bytes_of (keeping left)) b) p.replies;
-  leaves_output = p.leaves_output;
-}
-  where
-    by : (a : U64) → r.reply ≡ a → leaves (means_u64 r.reply) (bytes_of r.state) b ≡ leaves (means_u64 r.reply) (bytes_of (keeping left)) b
-    by (U64.Number n) e = rw e (ap bytes_of (state_by p e))
-    by (U64.Refused why) e = rw e
+packed_of : {A : Type 0} (r : Reply A) (s t : Stream) → bytes_of (leaves r s t) ≡ leaves r (bytes_of s) (bytes_of t)
+packed_of (gives a) s t = refl
+packed_of (refused k) s t = refl
 
-module _ {b output output' b' : List ℕ} {s : Stream} {r : Fed} {k n : ℕ} (is : s ≡ state_of b) where
-  pub feed_told : (fragment : List ℕ) → Feeds s fragment output r output' → Tells r b k n b' → ToldFeed b fragment output k n b' output'
-  feed_told fragment p = told (subst (λ s. Feeds s fragment output r output') is p)
+-- the numbers and the next state's bytes, whether it is accepted or not: refused, they are those that came
+module _ {b : List ℕ} (n : length b ≡ 17) {output output' b' : List ℕ} {next : Stream} {reply : Answer ℕ} {k written : ℕ}
+    (is : b' ≡ bytes_of next) (ek : k ≡ refusal_of (means reply)) (ew : written ≡ natural (means reply)) where
+  told : {input left : List ℕ} → Takes (state_of b) input left output (outcome next reply) output' → Told b input left output k written b' output'
+  told {input} {left} p =
+      let r = take_reply (state_of b) input output in
+      record {
+        returns = ek ∙ ap refusal_of p.replies;
+        leaves_written = ew ∙ ap natural p.replies;
+        leaves_state = is ∙ ap bytes_of p.next_state ∙ packed_of r (keeping left) (state_of b) ∙ ap (leaves r (bytes_of (keeping left))) (bytes_back b n);
+        leaves_output = p.leaves_output;
+      }
 
-  pub end_told : Ends s output r output' → Tells r b k n b' → ToldEnd b output k n b' output'
-  end_told p = told (subst (λ s. Ends s output r output') is p)
+  pub feed_told : (fragment : List ℕ) {s : Stream} → s ≡ state_of b → Feeds s fragment output (outcome next reply) output' → ToldFeed b fragment output k written b' output'
+  feed_told fragment e p = told (subst (λ s. Feeds s fragment output (outcome next reply) output') e p)
 
--- what C is told of a number, and of a refusal
-pub tells_number : {b b' : List ℕ} {r : Fed} {n : ℕ} → r.reply ≡ U64.Number n → b' ≡ bytes_of r.state → Tells r b 0 n b'
-tells_number {b} {r = r} e f = record { returns = rw e; leaves_written = rw e; leaves_state = rw e f }
-
-pub tells_refusal : {b : List ℕ} {r : Fed} {why : Refusal} {k : ℕ} → r.reply ≡ U64.Refused why → k ≡ number_of why → Tells r b k 0 b
-tells_refusal e f = record { returns = rw e f; leaves_written = rw e; leaves_state = rw e }
+  pub end_told : {s : Stream} → s ≡ state_of b → Ends s output (outcome next reply) output' → ToldEnd b output k written b' output'
+  end_told e p = told (subst (λ s. Ends s output (outcome next reply) output') e p)

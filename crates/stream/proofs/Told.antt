@@ -7,18 +7,17 @@ use native.Mathlib.Omega.{arith}
 use lib.Dec.{ltb}
 use lib.ListN.{length, get_or, take, replicate, length-append, length-replicate}
 use lib.Seq.{take_at, get_or_at}
+use Rattle.std.specs.Prelude.{Ok, Err}
 use Rattle.answers.specs.Reply.{gives, refusal_of, natural, row, unless, leaves}
-use Rattle.answers.specs.Answers.{means_u64}
+use Rattle.answers.specs.Answers.{Answer, means}
 use Rattle.answers.specs.declared.Refusal.{Refusal}
 use Rattle.answers.specs.declared.Refusal.TheVariants as why
-use Rattle.answers.specs.declared.U64.{U64}
 use Rattle.records.specs.Records.{answers}
 use Rattle.stream.specs.declared.Stream.{Stream}
-use Rattle.stream.specs.Stream.{kept, keeping, take_reply, Takes}
+use Rattle.stream.specs.Stream.{outcome, kept, keeping, take_reply, Takes}
 use Rattle.stream.specs.Packed.{state_of, bytes_of, Told}
 use Rattle.stream.specs.Cuttings.{joined, Run, fed, ended, refused, ToldRun, told_fed, told_ended, told_refused}
 use Rattle.stream.proofs.Whole.{state, rest_short}
-use Rattle.stream.proofs.Calls.{made}
 use Rattle.stream.proofs.Packed.{zeros_fresh}
 use Rattle.stream.proofs.Cuttings.{any_cutting}
 
@@ -27,17 +26,17 @@ abbrev named : ℕ → Refusal
 named n = get_or (why.NegativeRoot ∷ why.NoLog ∷ why.DivisorZero ∷ why.NoFit ∷ why.TableTooLong ∷ why.NoSuchCard ∷ why.EmptyMask ∷ why.TooWide ∷ why.Differs ∷ why.NoRoom ∷ why.NoOperation ∷ why.BadOperand ∷ why.WrongLength ∷ []) (n - 1) why.WrongLength
 
 -- the answer that the two numbers which C is told are: 0 is no refusal
-abbrev pub told_u64 : ℕ → ℕ → U64
-told_u64 zero number = U64.Number number
-told_u64 (suc k) number = U64.Refused (named (suc k))
+abbrev pub told_u64 : ℕ → ℕ → Answer ℕ
+told_u64 zero number = Ok number
+told_u64 (suc k) number = Err (named (suc k))
 
 -- every refusal of a call has its number
-by_rows : (t u : Bool) (n : ℕ) → let r = unless (row 13 t ∷ row 10 u ∷ []) (gives n) in means_u64 (told_u64 (refusal_of r) (natural r)) ≡ r
+by_rows : (t u : Bool) (n : ℕ) → let r = unless (row 13 t ∷ row 10 u ∷ []) (gives n) in means (told_u64 (refusal_of r) (natural r)) ≡ r
 by_rows true u n = refl
 by_rows false true n = refl
 by_rows false false n = refl
 
-numbers : (s : Stream) (input output : List ℕ) → means_u64 (told_u64 (refusal_of (take_reply s input output)) (natural (take_reply s input output))) ≡ take_reply s input output
+numbers : (s : Stream) (input output : List ℕ) → means (told_u64 (refusal_of (take_reply s input output)) (natural (take_reply s input output))) ≡ take_reply s input output
 unfolding take_reply
 numbers s input output = by_rows (ltb 16 s.count) (ltb (length output) (length (answers input))) (length (answers input))
 
@@ -50,13 +49,13 @@ keeping_back l h =
     ap₂ state (take_at b (length l ∷ []) 16 n) (get_or_at b (length l) [] 0 16 n)
 
 module _ {b input left output b' output' : List ℕ} {n : ℕ} where
-  replies : {k : ℕ} → Told b input left output k n b' output' → means_u64 (told_u64 k n) ≡ take_reply (state_of b) input output
-  replies t = ap₂ (λ k n. means_u64 (told_u64 k n)) t.returns t.leaves_written ∙ numbers (state_of b) input output
+  replies : {k : ℕ} → Told b input left output k n b' output' → means (told_u64 k n) ≡ take_reply (state_of b) input output
+  replies t = ap₂ (λ k n. means (told_u64 k n)) t.returns t.leaves_written ∙ numbers (state_of b) input output
 
-  left_by : {k : ℕ} → Told b input left output k n b' output' → b' ≡ leaves (means_u64 (told_u64 k n)) (bytes_of (keeping left)) b
+  left_by : {k : ℕ} → Told b input left output k n b' output' → b' ≡ leaves (means (told_u64 k n)) (bytes_of (keeping left)) b
   left_by t = t.leaves_state ∙ ap (λ m. leaves m (bytes_of (keeping left)) b) (sym (replies t))
 
-  pub takes_told : (k : ℕ) → (k ≡ 0 → length left ≤ 16) → Told b input left output k n b' output' → Takes (state_of b) input left output (made (state_of b') (told_u64 k n)) output'
+  pub takes_told : (k : ℕ) → (k ≡ 0 → length left ≤ 16) → Told b input left output k n b' output' → Takes (state_of b) input left output (outcome (state_of b') (told_u64 k n)) output'
   takes_told zero h t = record {
     replies = replies t;
     next_state = ap state_of (left_by t) ∙ keeping_back left (h refl) ∙ ap (λ m. leaves m (keeping left) (state_of b)) (replies t);
@@ -68,7 +67,7 @@ module _ {b input left output b' output' : List ℕ} {n : ℕ} where
     leaves_output = t.leaves_output;
   }
 
-  wrote_told : {k : ℕ} → Told b input left output k n b' output' → take (natural (means_u64 (told_u64 k n))) output' ≡ take n output'
+  wrote_told : {k : ℕ} → Told b input left output k n b' output' → take (natural (means (told_u64 k n))) output' ≡ take n output'
   wrote_told t = ap (λ i. take i output') (ap natural (replies t) ∙ sym t.leaves_written)
 
 -- a run of C calls is a run

@@ -1,9 +1,9 @@
 -- The whole records of an input and what is left after them, and the bytes that a state stands for.
 use mathlib.Core.Path.{◌≡◌, refl, sym, ap, ◌∙◌}
 use mathlib.Core.List.{List, ◌++◌, append_assoc}
-use Prim.Native.Nat.{ℕ, ◌+◌, ◌-◌, ◌*◌, ◌/◌, ◌<◌, ◌≤◌}
+use Prim.Native.Nat.{ℕ, ◌-◌, ◌*◌, ◌/◌, ◌<◌, ◌≤◌}
 use native.Mathlib.Omega.{arith}
-use lib.ListN.{length, replicate, length-append, length-take, length-drop, take-append-drop}
+use lib.ListN.{length, replicate, length-take, length-drop, take-append-drop}
 use lib.Seq.{take_at, length-take-le}
 use Rattle.laws.proofs.Order.{by_order}
 use Rattle.records.specs.Records.{records, answers}
@@ -48,19 +48,7 @@ keeping_short b h = h
 pub kept_short : (s : Stream) → s.count ≤ 16 → length (kept s) ≤ 16
 kept_short s h = omega (arith, length-take s.count s.bytes)
 
--- ---- how many bytes a call writes, by the count
-
-module _ (s : Stream) (h : s.count ≤ length s.bytes) where
-  pub kept_is : length (kept s) ≡ s.count
-  kept_is = length-take-le s.count s.bytes h
-
-  pub feed_size : (fragment : List ℕ) {n : ℕ} → n ≡ (s.count + length fragment) / 17 → 9 * n ≡ length (answers (whole (kept s ++ fragment)))
-  feed_size fragment e =
-      ap (λ i. 9 * i) (e ∙ ap (λ i. (i + length fragment) / 17) (sym kept_is) ∙ ap (λ i. i / 17) (sym (length-append (kept s) fragment)))
-      ∙ sym (whole_answers (kept s ++ fragment))
-
-  pub end_size : 9 * ((s.count + 16) / 17) ≡ length (answers (kept s))
-  end_size = ap (λ i. 9 * ((i + 16) / 17)) (sym kept_is) ∙ sym (length-answers (records (kept s)) (kept s))
+-- ---- how many bytes the end writes
 
 -- the answer to a tail: 9 bytes where there are any
 module _ (t : List ℕ) (room : ℕ) where

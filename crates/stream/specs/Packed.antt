@@ -1,9 +1,7 @@
 -- A state as 17 bytes, 16 and their count, and a stream's calls in the bytes and numbers of C.
 use Rattle.std.specs.Prelude.{◌≡◌, List, [], ◌∷◌, ◌++◌, ℕ, get_or, take}
 use Rattle.answers.specs.Reply.{refusal_of, natural, leaves}
-use Rattle.answers.specs.Answers.{means_u64}
 use Rattle.stream.specs.declared.Stream.{Stream}
-use Rattle.stream.specs.declared.Fed.{Fed}
 use Rattle.stream.specs.Stream.{kept, keeping, whole, rest, in_front, take_reply}
 
 -- the state that 17 bytes are, and the 17 bytes of a state
@@ -14,12 +12,6 @@ unfoldable pub bytes_of : Stream → List ℕ
 bytes_of s = s.bytes ++ (s.count ∷ [])
 
 -- ---- a call in C
-
--- what a call gave, as C is told it
-pub record Tells (r : Fed) (b : List ℕ) (refusal written : ℕ) (b' : List ℕ) : Type 0 where
-  pub returns : refusal ≡ refusal_of (means_u64 r.reply)
-  pub leaves_written : written ≡ natural (means_u64 r.reply)
-  pub leaves_state : b' ≡ leaves (means_u64 r.reply) (bytes_of r.state) b
 
 -- the promise of a C function that answers an input and keeps what is left: what it returns, and what it leaves with its caller
 pub record Told (b input left output : List ℕ) (refusal written : ℕ) (b' output' : List ℕ) : Type 0 where

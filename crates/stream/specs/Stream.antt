@@ -1,15 +1,17 @@
 -- Records that come in fragments: what a state stands for, and the one promise of `feed` and `end`.
 use Rattle.std.specs.Prelude.{◌≡◌, List, [], ◌∷◌, ◌++◌, ℕ, ◌-◌, ◌*◌, ◌/◌, ◌≤◌, ◌<◌, ltb, length, take, drop, replicate}
 use Rattle.answers.specs.Reply.{Reply, gives, Row, row, unless, leaves}
-use Rattle.answers.specs.Answers.{means_done, means_u64}
-use Rattle.answers.specs.declared.Done.{Done}
+use Rattle.answers.specs.Answers.{Answer, means}
 use Rattle.records.specs.Records.{answers}
 use Rattle.stream.specs.declared.Stream.{Stream}
-use Rattle.stream.specs.declared.Fed.{Fed}
 
 -- the bytes that a state stands for: those since the last whole record
 abbrev pub kept : Stream → List ℕ
 kept s = take s.count s.bytes
+
+-- the same for a call: refused with 13 for a count above 16, which no call makes
+abbrev pub kept_reply : Stream → Reply (List ℕ)
+kept_reply s = unless (row 13 (ltb 16 s.count) ∷ []) (gives (kept s))
 
 -- the state that stands for at most 16 bytes; zeros fill it up
 unfoldable pub keeping : List ℕ → Stream
@@ -23,6 +25,14 @@ abbrev pub rest : List ℕ → List ℕ
 rest input = drop (17 * (length input / 17)) input
 
 -- ---- a call that answers an input
+
+-- the state that a call leaves, and how many bytes it wrote, or its refusal
+pub record Fed : Type 0 where
+  pub state : Stream
+  pub reply : Answer ℕ
+
+abbrev pub outcome : Stream → Answer ℕ → Fed
+outcome s r = record { state = s; reply = r }
 
 -- the answers to an input in front of an output
 abbrev pub in_front : List ℕ → List ℕ → List ℕ
@@ -38,7 +48,7 @@ take_reply s input output = unless (take_rows s.count (length (answers input)) (
 
 -- the promise of a call that answers an input and keeps what is left
 pub record Takes (s : Stream) (input left output : List ℕ) (r : Fed) (output' : List ℕ) : Type 0 where
-  pub replies : means_u64 r.reply ≡ take_reply s input output
+  pub replies : means r.reply ≡ take_reply s input output
   pub next_state : r.state ≡ leaves (take_reply s input output) (keeping left) s
   pub leaves_output : output' ≡ leaves (take_reply s input output) (in_front input output) output
 
@@ -49,15 +59,6 @@ Feeds s fragment = Takes s (whole (kept s ++ fragment)) (rest (kept s ++ fragmen
 -- `end` answers what is kept, and keeps nothing
 abbrev pub Ends : Stream → List ℕ → Fed → List ℕ → Type 0
 Ends s = Takes s (kept s) []
-
--- ---- the promises of `check` and `advance`
-
-pub record Checks (count size room : ℕ) (r : Done) : Type 0 where
-  pub replies : means_done r ≡ unless (take_rows count size room) (gives tt)
-
-pub record Completes (input output : List ℕ) (next : Stream) (output' : List ℕ) : Type 0 where
-  pub next_state : next ≡ keeping (rest input)
-  pub leaves_output : output' ≡ in_front (whole input) output
 
 -- ---- in plain facts
 

@@ -1,6 +1,6 @@
--- The place stays within the list.
+-- No byte is added to the rest.
 use Rattle.std.proofs.Common.{◌≤◌, length}
 use Rattle.edges.proofs.replay.all_kinds.Given as goal
 
-abbrev pub invariant-loop-kind : goal.invariant-loop-kind
-invariant-loop-kind l = l.at ≤ length l.list
+abbrev pub invariant-loop-number : goal.invariant-loop-number
+invariant-loop-number l = length l.rest ≤ length l.list

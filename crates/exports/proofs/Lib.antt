@@ -1,2 +1,0 @@
--- Laws of the exported functions.
-pub mod Pair

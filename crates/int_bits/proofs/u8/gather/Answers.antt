@@ -1,7 +1,0 @@
--- Over the masks that `prepare` makes the stages are gather.
-use Rattle.int_bits.proofs.Extract.{extracted}
-use Rattle.int_bits.proofs.Width.{w8}
-use Rattle.int_bits.proofs.u8.gather.Goals as goal
-
-pub returns : goal.returns
-returns c = extracted w8 c.ranges.x.fits c.ranges.mask.fits c.prepare.ensures c.extract_impl.ensures

@@ -1,0 +1,3 @@
+-- The laws behind the contracts.
+pub mod Widest
+pub mod Rules
