@@ -3,7 +3,7 @@ use crate::entry::Entry;
 use crate::slices;
 use answers::Refusal;
 
-// How many words there is room for, in the source and in the destination.
+// How many words there is room for, in the source and in the destination: the memory is fixed, without a heap.
 const ROOM: usize = 16;
 
 // What stands for the refusal where either lacks room, so that no call is made.

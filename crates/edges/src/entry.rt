@@ -11,6 +11,7 @@ use answers::Refusal;
 #[derive(Clone, Copy)]
 pub struct Entry<'a> {
     pub kind: Kind,
+    // The list's byte, which may be no refusal's number.
     pub refusal: u8,
     pub words: &'a [u8],
 }
@@ -37,7 +38,7 @@ impl<'a> Entry<'a> {
         Some((entry, rest))
     }
 
-    // The word at an index, of which there may be none.
+    // The word at an index, 0 where there is none: such entries are answered too.
     #[tactic(auto, unfolding(crate::specs::Words::word_at))]
     pub fn word(&self, index: usize) -> u64
         ensures { result ≡ word_at self.now.words.now index }

@@ -19,10 +19,11 @@ use output::Output;
 use std::io;
 use std::io::Read;
 
-// How many bytes of the input are read at most.
+// How many bytes of the input are read at most: the memory is fixed, without a heap.
 const MOST: usize = 262_144;
 
-// Reads until the buffer is full or the input ends, and gives what it read. A read that fails ends the input.
+// Reads until the buffer is full or the input ends, and gives what it read. A read that fails ends the input. `read_exact` would not say how
+// far it came, and `read_to_end` needs a heap.
 fn read_full<'a>(reader: &mut impl Read, buffer: &'a mut [u8]) -> &'a [u8]
     ensures { length result.now ≤ length buffer.old }
 {

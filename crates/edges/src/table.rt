@@ -3,7 +3,7 @@ use crate::entry::Entry;
 use crate::slices;
 use cards::Field;
 
-// How many words there is room for: one more than a table may have.
+// How many words there is room for, in fixed memory: one more than a table may have.
 const ROOM: usize = 4097;
 
 // The field that an entry's call is about.

@@ -4,16 +4,18 @@
 ghost use Rattle.std.specs.Prelude.{◌≤◌, length, IfOk};
 
 use anyhow::{Context, Result};
+use records::{ANSWER, RECORD};
 use std::io;
 use std::io::{Read, Write};
 use std::process::ExitCode;
 
-// The bytes of 4,096 records, and of their answers.
-const INPUT: usize = 69_632;
+// The bytes of 4,096 records, and of their answers: the memory is fixed, without a heap.
+const INPUT: usize = 4_096 * RECORD;
 
-const OUTPUT: usize = 36_864;
+const OUTPUT: usize = 4_096 * ANSWER;
 
-// Reads until the buffer is full or the input ends, however few bytes each read brings: how many came.
+// Reads until the buffer is full or the input ends, however few bytes each read brings: how many came. `read_exact` would not say how far it
+// came, and `read_to_end` needs a heap.
 fn fill(reader: &mut impl Read, buffer: &mut [u8]) -> io::Result<usize>
     ensures { IfOk result (λ n. n ≤ length buffer.new) }
 {

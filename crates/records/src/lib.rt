@@ -9,9 +9,9 @@ ghost use Rattle.records.specs.Records.{reply_to, Responds, One, Many};
 use answers::Refusal;
 
 // The bytes of a record, and of an answer.
-const RECORD: usize = 17;
+pub const RECORD: usize = 17;
 
-const ANSWER: usize = 9;
+pub const ANSWER: usize = 9;
 
 // The reply to a record, or to a tail that is too short to be one.
 #[tactic(auto, using(crate::proofs::Coded::short, crate::proofs::Coded::replies))]
@@ -60,6 +60,8 @@ pub fn many(input: &[u8], output: &mut [u8]) -> Result<u64, Refusal>
     if output.len() < size {
         return Err(Refusal::NoRoom);
     }
+
+    // The output by place: of what `chunks_mut` lends, a proof knows the length alone afterwards.
     for (i, asked) in input.chunks(RECORD).enumerate() {
         let place = ANSWER * i;
         let _ = respond(asked, &mut output[place..place + ANSWER]);

@@ -3,8 +3,9 @@ ghost use Rattle.std.specs.Prelude.{◌≡◌, ◌++◌, ◌+◌, ◌-◌, ◌*�
 ghost use Rattle.records.specs.Records.{Many};
 ghost use Rattle.stream.specs.Stream.{keeping, whole, rest};
 
-use crate::{ANSWER, RECORD, Stream};
+use crate::Stream;
 use answers::Refusal;
+use records::{ANSWER, RECORD};
 use std::marker::Model;
 
 // An input in two parts: at most 16 bytes that were kept, and a fragment. A clause sees all its bytes.

@@ -8,13 +8,9 @@ ghost use Rattle.stream.specs.Packed.{state_of, bytes_of};
 
 use answers::Refusal;
 use input::Input;
+use records::RECORD;
 
 mod input;
-
-// The bytes of a record, and of an answer.
-const RECORD: usize = 17;
-
-const ANSWER: usize = 9;
 
 // The bytes that are kept at most, and those of a packed state: these and their count.
 const KEPT: usize = RECORD - 1;
