@@ -32,7 +32,7 @@ impl Refusal {
     }
 }
 
-// A type of numbers, with the 0 that a refused call has for its value.
+// A type of numbers, with the 0 that a refused call has for its value. `Default` promises no more than that a value is a default one.
 pub trait Number: Copy {
     ghost ZERO: { Self };
 

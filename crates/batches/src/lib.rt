@@ -49,7 +49,7 @@ fn batch<F: Fn(u64) -> u64>(
     Ok(())
 }
 
-// Each word of the source, gathered under the mask, into the destination from the place on.
+// Each word of the source, gathered under the mask, into the destination from the place on. A C function of its own calls each of the two.
 pub fn gather_batch(
     source: &[u64],
     mask: u64,

@@ -84,7 +84,7 @@ impl Field {
         Ok(())
     }
 
-    // Whether a guarded write is refused.
+    // Whether a guarded write is refused. The two numbers are arguments, as of a compare-and-exchange.
     #[tactic(auto, using(crate::proofs::Accepts::readable, crate::proofs::Accepts::check_refused, crate::proofs::Accepts::check_passed))]
     pub fn write_check(self, table: &[u64], expected: u64, new: u64) -> Result<(), Refusal>
         ensures { ChecksWrite table.now self.card self.mask expected new result }
@@ -93,7 +93,7 @@ impl Field {
         self.guard_check(table, expected, new)
     }
 
-    // The new number goes into the field, whatever is there; where there is no such card, nothing changes.
+    // The new number goes into the field, whatever is there; where there is no such card, nothing changes. `get_mut` would not say that.
     #[tactic(auto, unfolding(crate::specs::Table::updated))]
     fn store(self, table: &mut [u64], new: u64)
         ensures { table.new ≡ updated table.old self.card self.mask new }

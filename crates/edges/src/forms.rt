@@ -1,4 +1,4 @@
-// The signed forms, on operands and to numbers in two's complement.
+// The signed forms, on operands and to numbers in two's complement. Each has operands of its own kind, so they are matched.
 use crate::kind::{Form, Width};
 use answers::Refusal;
 use widths::{Signed, Unsigned};

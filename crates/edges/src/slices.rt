@@ -14,7 +14,7 @@ pub fn make(words: &mut [u64], seed: u64)
     }
 }
 
-// Puts a word at an index; past the end there is nothing to put.
+// Puts a word at an index; past the end there is nothing to put, which `get_mut` would not say.
 pub fn put(words: &mut [u64], at: usize, word: u64)
     ensures { words.new ≡ slice_set words.old at word }
 {

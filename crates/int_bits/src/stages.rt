@@ -60,6 +60,7 @@ pub fn deposit_impl<T: Word<STAGES>, const STAGES: usize>(
 ) -> T
     ensures { T.number result ≡ bit_and (deposit_stages (bits T.width) STAGES (map T.number masks) (T.number x)) (T.number sparse) }
 {
+    // By the stage's number: over `iter().enumerate().rev()` the invariant would have to follow the iterator's state.
     for stage in (0..STAGES).rev() {
         let n = 1 << stage;
         // In effect, `n` 0-bits are inserted somewhere in each run of data to spread it.

@@ -1,5 +1,6 @@
 // Integer decimal logarithms, after Rust's core (library/core/src/num/imp/int_log10.rs), and the digit count.
 // The log of v > 0 is the k with 10^k <= v < 10^(k+1); a number that is not above 0 has none and is refused.
+// The functions of each width take the bare number: a type for one above 0 would be made anew after each division.
 #![tactic(auto)]
 
 ghost use Rattle.std.specs.Prelude.{◌≡◌, ◌<◌, IfSome, IfNone};

@@ -1,4 +1,4 @@
-// The wrapped number, and whether the exact one does not fit: the Rust's pair.
+// The wrapped number, and whether the exact one does not fit: the Rust's pair, and no `Option`, since the number is promised either way.
 #![tactic(auto, using(crate::proofs::Rules::exact))]
 
 ghost use Rattle.std.specs.Prelude.{◌+ℤ◌, ◌-ℤ◌, neg_ℤ};

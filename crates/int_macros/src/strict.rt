@@ -1,4 +1,4 @@
-// The exact number, refused where it does not fit.
+// The exact number, refused where it does not fit; the bodies are the Rust's.
 #![tactic(auto, using(crate::proofs::Rules::exact))]
 
 ghost use Rattle.std.specs.Prelude.{◌≡◌, ◌+ℤ◌, ◌-ℤ◌, neg_ℤ};

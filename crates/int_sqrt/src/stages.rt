@@ -91,7 +91,7 @@ impl<const BITS: u32> Normalized<BITS> {
     }
 }
 
-// The stages that a word of BITS bits goes through, from its top byte down.
+// The stages that a word of BITS bits goes through, from its top byte down; a trait on the word itself would need a ghost member for it.
 trait Stages<const BITS: u32> {
     // The root of a normalised word.
     fn stages(n: &Normalized<BITS>) -> u64

@@ -1,4 +1,4 @@
-// The operations at each type, on operands and results as bits.
+// The operations at each type, on operands and results as bits. Each has operands and a number of its own kind, so they are matched.
 ghost use Rattle.std.specs.Prelude.{◌≡◌, true, false};
 ghost use Rattle.std.proofs.Common.{of_z};
 ghost use Rattle.answers.specs.Answers.{means};
