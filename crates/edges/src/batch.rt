@@ -6,7 +6,8 @@ use answers::Refusal;
 // How many words there is room for, in the source and in the destination: the memory is fixed, without a heap.
 const ROOM: usize = 16;
 
-// What stands for the refusal where either lacks room, so that no call is made; an entry may hold this byte, and is then right.
+// What stands for the refusal where either lacks room, so that no call is made; an entry that holds this byte, and zeros
+// for the words afterwards, is then right.
 const NO_CALL: u8 = 255;
 
 // Whether the call gives the refusal and leaves the words. The words: how many words the source has, mask, how many the destination has, place, a

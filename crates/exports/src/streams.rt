@@ -28,7 +28,9 @@ pub extern "C" fn ply_stream_feed(
 {
     let mut stream = Stream::from(*state);
     let reply = stream.feed(fragment, output);
-    *state = stream.into();
+    if reply.is_ok() {
+        *state = stream.into();
+    }
     tell(reply, written)
 }
 
@@ -38,6 +40,8 @@ pub extern "C" fn ply_stream_end(state: &mut [u8; 17], output: &mut [u8], writte
 {
     let mut stream = Stream::from(*state);
     let reply = stream.end(output);
-    *state = stream.into();
+    if reply.is_ok() {
+        *state = stream.into();
+    }
     tell(reply, written)
 }

@@ -14,7 +14,7 @@ use codes::{Kind, Operation};
 use kinds::{signed, unsigned};
 use operands::Operands;
 
-// Of every two codes, as a record's bytes come.
+// Of any two bytes as codes: a record brings them as the halves of its first byte, unchecked.
 #[tactic(auto, using(crate::proofs::Answered::not_operation, crate::proofs::Answered::not_kind, crate::proofs::Answered::at_codes), unfolding(crate::specs::Operations::width_of))]
 pub fn answer(op: u8, width: u8, a: u64, b: u64) -> Result<u64, Refusal>
     ensures { means result ≡ answer_of op width a b }
