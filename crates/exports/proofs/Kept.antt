@@ -1,13 +1,12 @@
 -- A refused call on the state that 17 bytes are leaves the state of those bytes.
-use mathlib.Core.Path.{◌≡◌, sym, ap, ◌∙◌, subst}
-use mathlib.Core.Bool.{Bool, true, false}
+use mathlib.Core.Path.{◌≡◌, sym, ap, ◌∙◌}
+use mathlib.Core.Bool.{false}
 use mathlib.Core.List.{List}
 use Prim.Native.Nat.{ℕ}
-use native.Mathlib.Omega.{arith}
 use lib.ListN.{length}
 use Rattle.std.specs.Prelude.{Ok, Err, is_ok}
 use Rattle.answers.specs.Reply.{leaves}
-use Rattle.answers.specs.Answers.{Answer, means}
+use Rattle.answers.specs.Answers.{Answer}
 use Rattle.stream.specs.declared.Stream.{Stream}
 use Rattle.stream.specs.Stream.{outcome, keeping, Takes}
 use Rattle.stream.specs.Packed.{state_of, bytes_of}
