@@ -141,17 +141,29 @@ fn by_stages<W: Stages<BITS>, const BITS: u32>(n: u64) -> u64
     s >> denormalization_shift
 }
 
-// The root of a number of the widest type, by the table or by the stages of the narrowest word that holds it.
-pub(super) fn isqrt_u64(n: u64) -> u64
+// The root of a number above 0 by the stages of the narrowest word that holds it. Never inlined, so that `isqrt_u64` can be.
+#[inline(never)]
+fn by_word(n: u64) -> u64
+    requires { 0 < n }
     ensures { result ≡ root n }
 {
-    if n <= u8::MAX as u64 {
-        tables::U8_ISQRT_WITH_REMAINDER[n as usize].0 as u64
-    } else if n <= u16::MAX as u64 {
+    if n <= u16::MAX as u64 {
         by_stages::<u16, 16>(n)
     } else if n <= u32::MAX as u64 {
         by_stages::<u32, 32>(n)
     } else {
         by_stages::<u64, 64>(n)
+    }
+}
+
+// The root of a number of the widest type, by the table or by the stages. Inlined, since reading the table is less than a call.
+#[inline]
+pub(super) fn isqrt_u64(n: u64) -> u64
+    ensures { result ≡ root n }
+{
+    if n <= u8::MAX as u64 {
+        tables::U8_ISQRT_WITH_REMAINDER[n as usize].0 as u64
+    } else {
+        by_word(n)
     }
 }

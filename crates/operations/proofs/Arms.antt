@@ -1,4 +1,4 @@
--- The arms of `at_u8` to `at_i64` and of `operate`: the operation of each number, and what the last arm of a match knows.
+-- The arms of `unsigned` and `signed`: the operation of each number, and which codes it takes.
 use mathlib.Core.Path.{◌≡◌, refl, sym, ap, ◌∙◌}
 use mathlib.Core.Bool.{Bool, true, false, ◌&&◌}
 use Prim.Native.Nat.{ℕ, zero, suc, ◌<◌, ◌≤◌}

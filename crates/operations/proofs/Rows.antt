@@ -5,7 +5,7 @@ use mathlib.Core.List.{[], ◌∷◌}
 use Prim.Native.Nat.{ℕ, ◌<◌, ◌≤◌}
 use native.Mathlib.Omega.{arith}
 use borrow.Author.Tests.{le-ltb, le-leb, lt-leb}
-use lib.Dec.{leb, eqb}
+use lib.Dec.{leb, ltb, eqb}
 use lib.ListN.{get_or-eq_default}
 use Rattle.answers.specs.Reply.{refused}
 use Rattle.operations.specs.Operations.{first_code, end_code, takes, limit, operation, answer_of, Ready}
@@ -19,6 +19,12 @@ module _ (op code : ℕ) where
   unlisted h =
       let none : end_code op ≤ code = subst (λ n. n ≤ code) (sym (get_or-eq_default (8 ∷ 8 ∷ 4 ∷ 4 ∷ 8 ∷ 8 ∷ []) 0 h)) (omega arith) in
       sym (ap (λ t. leb (first_code op) code && t) (le-ltb code (end_code op) none) ∙ and_no (leb (first_code op) code))
+
+  pub too_low : code < first_code op → false ≡ takes op code
+  too_low h = sym (ap (λ t. t && ltb code (end_code op)) (lt-leb (first_code op) code h))
+
+  pub from_first : first_code op ≤ code → ltb code (end_code op) ≡ takes op code
+  from_first h = sym (ap (λ t. t && ltb code (end_code op)) (le-leb (first_code op) code h))
 
 module _ (op code a b : ℕ) where
   pub refuses_11 : takes op code ≡ false → refused 11 ≡ answer_of op code a b

@@ -14,8 +14,9 @@ use int_macros::{cast_signed, cast_unsigned, next_multiple_of, rem_euclid};
 use int_sqrt::{checked_isqrt, isqrt};
 use widths::{Signed, Unsigned};
 
-// What an operation gives at an unsigned type.
+// What an operation gives at an unsigned type. Never inlined: beside these tests the record's bytes would be read one by one.
 #[tactic(auto, using(crate::proofs::Answered::at_unsigned))]
+#[inline(never)]
 pub(crate) fn unsigned<T: Word<STAGES> + Log10, const STAGES: usize>(
     operation: Operation,
     operands: Operands,
@@ -44,8 +45,9 @@ fn in_bits<T: Signed>(z: T) -> u64
     cast_unsigned(z).widen()
 }
 
-// What an operation gives at a signed type.
+// What an operation gives at a signed type. Never inlined, as above.
 #[tactic(auto, using(crate::proofs::Answered::at_signed))]
+#[inline(never)]
 pub(crate) fn signed<T: Signed + Log10>(
     operation: Operation,
     operands: Operands,

@@ -12,15 +12,15 @@ use Rattle.records.specs.Records.{reply_to, answer_bytes, Responds}
 use Rattle.records.proofs.Coded.{answer_bytes_are, written}
 use Rattle.records.proofs.RoundTrip.{reply_room}
 
--- `respond` has the reply q, stores its refusal a half byte up, and has `put` write its value
+-- `respond` has the reply q, has `put` write its value, and stores its refusal a half byte up
 module _ (asked : List ℕ) {q : Reply ℕ} (is : q ≡ reply_to asked) where
   pub room : Room (2 ^ 64) q
   room = subst (Room (2 ^ 64)) (sym is) (reply_room asked)
 
   pub responds : (l : List ℕ) {r : Answer Unit} {why v : ℕ} {ys : List ℕ} → length l ≡ 9 → why ≡ refusal_of q → v ≡ natural q →
       means r ≡ mapped (λ _. tt) q →
-      ys ≡ bytes (length (mid_of 1 (length (set l 0 (why * 16)) - 1) (set l 0 (why * 16)))) v →
-      Responds asked r (put_mid 1 (length (set l 0 (why * 16)) - 1) (set l 0 (why * 16)) ys)
+      ys ≡ bytes (length (mid_of 1 (length l - 1) l)) v →
+      Responds asked r (set (put_mid 1 (length l - 1) l ys) 0 (why * 16))
   responds l {r} {why} {v} n ew ev er e = record {
     replies = er ∙ ap (mapped (λ _. tt)) is;
     leaves_answer =

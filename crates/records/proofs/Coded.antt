@@ -71,9 +71,8 @@ answer_bytes_are q h k =
     encode-append (4 ∷ 4 ∷ []) (64 ∷ []) 1 8 (refusal_of q ∷ 0 ∷ []) (natural q ∷ []) refl refl refl (k, tt)
     ∙ ap₂ ◌++◌ (halves (refusal_of q) h) (encode_one 8 (natural q))
 
--- an answer whose first byte is stored and whose other bytes come back from `put`
-pub written : (l : List ℕ) (x v : ℕ) {ys : List ℕ} → length l ≡ 9 → ys ≡ bytes (length (mid_of 1 (length (set l 0 x) - 1) (set l 0 x))) v →
-    put_mid 1 (length (set l 0 x) - 1) (set l 0 x) ys ≡ x ∷ bytes 8 v
+-- an answer whose other bytes come back from `put` and whose first byte is stored then
+pub written : (l : List ℕ) (x v : ℕ) {ys : List ℕ} → length l ≡ 9 → ys ≡ bytes (length (mid_of 1 (length l - 1) l)) v → set (put_mid 1 (length l - 1) l ys) 0 x ≡ x ∷ bytes 8 v
 written [] x v n e = absurd (omega arith)
 written (y ∷ l) x v {ys} n e =
     let m : length l ≡ 8 = omega arith in

@@ -33,8 +33,9 @@ fn respond(asked: &[u8], answer: &mut [u8]) -> Result<(), Refusal>
     ensures { Responds asked.now result answer.new }
 {
     let reply = reply_to(asked);
-    answer[0] = answers::refusal_number(reply) * 16;
+    // The value before the first byte: the compiler makes one store of eight bytes, but not of nine.
     fields::put(answers::value(reply), &mut answer[1..]);
+    answer[0] = answers::refusal_number(reply) * 16;
     reply.map(|_| ())
 }
 

@@ -10,13 +10,15 @@ use lib.Signed.{lt_z, rem_z}
 use mir.Syntax.{Width}
 use mir.Val.{hbits, SFits}
 use Rattle.answers.specs.Reply.{gives, refused}
+use Rattle.laws.proofs.Held.{held, is_held}
 use Rattle.laws.proofs.Order.{by_order, sub_cases, pos-minus}
 use Rattle.laws.proofs.Tests.{and-false, and-true, or-false}
 use Rattle.signed.specs.Signed.{mod_z, opposite, exact, wrap, next, next_multiple}
+use Rattle.signed.specs.Accepts.{Divides}
 use Rattle.signed.proofs.ModZ.{below, mod-add}
 use Rattle.signed.proofs.Wrap.{wrap_fits}
 use Rattle.signed.proofs.Strict.{exact_fits, neg_flag}
-use Rattle.signed.proofs.Rem.{eq_z_no, rem_kept, rem_raised}
+use Rattle.signed.proofs.Rem.{eq_z_no, some, rem_kept, rem_raised, left_held}
 
 -- ---- −a and a modulo m: both 0, or m together
 
@@ -76,6 +78,11 @@ gap_small : (w : Width) (a d : ℤ) → 0 < nat_abs d → SFits w d → SFits w 
 unfolding gap
 gap_small w a (pos k) p f = record { sfits = omega (arith, f.sfits, below k p (neg_ℤ a)) }
 gap_small w a (negsuc k) p f = minus_fits w (mod_z a (suc k)) (omega (arith, f.sfits, below (suc k) p a))
+
+signed_rem_small : (w : Width) (a d : ℤ) → 0 < nat_abs d → SFits w d → SFits w (signed_rem a d)
+unfolding signed_rem
+signed_rem_small w a (pos k) p f = record { sfits = omega (arith, f.sfits, below k p a) }
+signed_rem_small w a (negsuc k) p f = minus_fits w (mod_z (neg_ℤ a) (suc k)) (omega (arith, f.sfits, below (suc k) p (neg_ℤ a)))
 
 -- ---- the code's m: the machine's remainder r, with d added where their signs differ
 
@@ -165,3 +172,14 @@ module _ (w : Width) (a d : ℤ) (p : 0 < nat_abs d) where
 pub next_alone : (w : Width) (a d : ℤ) → SFits w a → d ≡ negsuc 0 → next_multiple w a d ≡ gives a
 unfolding gap
 next_alone w a d f e = stays w a d (omega (arith, ap nat_abs e)) (ap (gap a) e ∙ ap (λ n. neg_ℤ (pos n)) (by_one a)) f
+
+-- the sum of the remainder and d fits where their signs differ
+module _ {w : Width} {a d : ℤ} (fa : SFits w a) (fd : SFits w d) (v : Divides w a d) where
+  abbrev left : ℤ
+  left = rem_z (held w a) (held w d)
+
+  pub joined_fits : opposite (held w left) (held w d) ≡ true → SFits w (held w left +ℤ held w d)
+  joined_fits e =
+      let flag : opposite (rem_z a d) d ≡ true = sym (ap (λ r. opposite r (held w d)) (left_held fa fd v) ∙ ap (opposite (rem_z a d)) (is_held fd)) ∙ e in
+      let is : held w left +ℤ held w d ≡ signed_rem a d = ap (λ r. r +ℤ held w d) (left_held fa fd v) ∙ ap (λ z. rem_z a d +ℤ z) (is_held fd) ∙ joined a d (some d v.by_some) flag in
+      subst (SFits w) (sym is) (signed_rem_small w a d (some d v.by_some) fd)

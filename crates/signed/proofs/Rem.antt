@@ -1,16 +1,19 @@
 -- The Euclidean remainder, over the width: what it is, and what the code makes of the machine's `%`. Assumes nothing.
 use mathlib.Core.Path.{◌≡◌, refl, sym, ap, ◌∙◌, subst}
 use mathlib.Core.Bool.{true, false, cond, ◌&&◌}
-use Prim.Native.Nat.{ℕ, suc, ◌-◌, ◌%◌, ◌^◌, ◌<◌}
-use native.Mathlib.Nat.{mod-lt, mod-eq_of_lt, mod_self, suc-mod, div-one}
+use Prim.Native.Nat.{ℕ, zero, suc, ◌-◌, ◌/◌, ◌%◌, ◌^◌, ◌≤◌, ◌<◌}
+use native.Mathlib.Nat.{mod-lt, mod-eq_of_lt, mod_self, suc-mod, div-le_self, div-lt_self, div-one}
 use native.Mathlib.Omega.{arith}
 use borrow.Author.Tests.{eq-eqb, ne_eqb, ltb-true}
 use lib.Dec.{T}
+use lib.Pow.{pow_pos}
 use lib.IntN.{ℤ, pos, negsuc, neg_ℤ, nat_abs, ◌+ℤ◌, ℤ_discrete}
-use lib.Signed.{lt_z, quot_z, rem_z, nat_abs-le}
+use lib.Signed.{mag, lt_z, quot_z, rem_z, mag_rem, nat_abs-le}
 use mir.Syntax.{Width}
 use mir.Val.{hbits, SFits, of_z}
+use mir.ValLaws.{sfits_le}
 use Rattle.answers.specs.Reply.{gives, refused}
+use Rattle.laws.proofs.Held.{held, is_held, both_held, by_bits, zero_fits}
 use Rattle.laws.proofs.Order.{by_order, sub_cases}
 use Rattle.laws.proofs.Tests.{and-false}
 use Rattle.signed.specs.Signed.{mod_z, eq_z, min_z, absolute, wrap, rem_euclid}
@@ -57,6 +60,43 @@ rem_raised (negsuc n) d p e =
     suc_mod_cases (λ k. lt_z (neg_ℤ (pos k)) (pos 0) ≡ true → neg_ℤ (pos k) +ℤ pos (nat_abs d) ≡ pos (nat_abs d - suc (n % nat_abs d))) n (nat_abs d) p
     (λ h e. sub_cases (λ z. z ≡ pos (nat_abs d - suc (n % nat_abs d))) (nat_abs d) (suc (n % nat_abs d)) (λ l. absurd (omega arith)) (λ l. refl))
     (λ h e. absurd (omega (arith, ltb-true 0 0 e))) e
+
+-- ---- where `%` is defined: the divisor is not 0, and not −1 at MIN
+
+mag_neg : (n : ℕ) {k : ℕ} → 0 < k → n ≤ k → mag (neg_ℤ (pos n)) < k
+mag_neg zero p h = p
+mag_neg (suc n) p h = h
+
+quot_fits : (w : Width) (a d : ℤ) → SFits w a → (a ≡ min_z w → d ≡ negsuc 0 → ⊥) → SFits w (quot_z a d)
+quot_fits w (pos n) (pos m) f k = record { sfits = omega (arith, f.sfits, div-le_self n m) }
+quot_fits w (pos n) (negsuc m) f k =
+    record { sfits = mag_neg (n / suc m) (pow_pos (hbits w)) (omega (arith, f.sfits, div-le_self n (suc m))) }
+quot_fits w (negsuc n) (pos m) f k =
+    record { sfits = mag_neg (suc n / m) (pow_pos (hbits w)) (omega (arith, f.sfits, div-le_self (suc n) m)) }
+quot_fits w (negsuc n) (negsuc zero) f k =
+    by_order (suc n) (2 ^ hbits w)
+    (λ h. record { sfits = rw div-one h })
+    (λ h. absurd (k (ap negsuc (omega (arith, f.sfits))) refl))
+quot_fits w (negsuc n) (negsuc (suc m)) f k =
+    record { sfits = omega (arith, f.sfits, div-lt_self {n = suc n} {k = suc (suc m)} (omega arith) (omega arith)) }
+
+module _ {w : Width} {a d : ℤ} (fa : SFits w a) (fd : SFits w d) where
+  pub rem_defined : Divides w a d → (0 < of_z w d) × SFits w (quot_z (held w a) (held w d))
+  rem_defined v = (
+    by_order 0 (of_z w d) (λ p. p) (λ p. absurd (v.by_some (by_bits (pos 0) fd (zero_fits w) (omega arith)))),
+    subst (SFits w) (sym (both_held quot_z fa fd)) (quot_fits w a d fa v.holds),
+  )
+
+  module _ (v : Divides w a d) where
+    -- the machine's remainder is one of a by d, and fits
+    pub left_is : rem_z (held w a) (held w d) ≡ rem_z a d
+    left_is = both_held rem_z fa fd
+
+    pub left_fits : SFits w (rem_z (held w a) (held w d))
+    left_fits = subst (SFits w) (sym left_is) (sfits_le (mag_rem a d) fa)
+
+    pub left_held : held w (rem_z (held w a) (held w d)) ≡ rem_z a d
+    left_held = is_held left_fits ∙ left_is
 
 -- ---- the answers of `rem_euclid`
 

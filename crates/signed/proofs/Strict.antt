@@ -5,15 +5,17 @@ use Prim.Native.Nat.{ℕ, zero, suc, ◌+◌, ◌-◌, ◌^◌, ◌≤◌, ◌<�
 use native.Mathlib.Nat.{mod-eq_of_lt}
 use native.Mathlib.Omega.{arith}
 use borrow.Author.Tests.{lt-ltb, le-ltb, le-leb, lt-leb, leb-false}
-use lib.IntN.{ℤ, pos, negsuc, neg_ℤ, nat_abs, ◌+ℤ◌, ◌-ℤ◌}
+use lib.Pow.{pow_pos}
+use lib.IntN.{ℤ, pos, negsuc, neg_ℤ, nat_abs, ◌+ℤ◌, ◌-ℤ◌, +ℤ_idl}
 use lib.Signed.{mag, lt_z, nat_abs-le}
 use mir.Syntax.{Width}
-use mir.Val.{bits, hbits, SFits, to_z, sel}
+use mir.Val.{bits, hbits, SFits, to_z, of_z, sel}
 use mir.ValLaws.{pow-bits, to_z_pos}
 use Rattle.answers.specs.Reply.{gives, refused}
-use Rattle.laws.proofs.Held.{from_zero}
+use Rattle.laws.proofs.Held.{held, is_held, by_bits, from_zero}
 use Rattle.laws.proofs.Order.{by_order, sub_cases}
-use Rattle.signed.specs.Signed.{absolute, outside, exact, wrap}
+use Rattle.signed.specs.Signed.{min_z, absolute, outside, exact, wrap, Overflows}
+use Rattle.signed.proofs.Range.{min_fits}
 use Rattle.signed.proofs.Wrap.{wrap_fits}
 
 -- ---- the exact number, by whether the width holds it
@@ -116,3 +118,37 @@ module _ (w : Width) where
   difference_flag a b fa fb =
       ap (λ t. wrong_side t (wrap w (a -ℤ b)) a) (sym (neg_flag b))
       ∙ right a (neg_ℤ b) fa.sfits (subst (λ n. n ≤ 2 ^ hbits w) (sym (neg-abs b)) (nat_abs-le b fb.sfits))
+
+-- ---- the negated number: it fits, but for that of MIN, which wraps to MIN
+
+neg_fits : (w : Width) (b : ℤ) → SFits w b → (b ≡ min_z w → ⊥) → SFits w (neg_ℤ b)
+neg_fits w (pos zero) f n = f
+neg_fits w (pos (suc k)) f n = record { sfits = omega (arith, f.sfits) }
+neg_fits w (negsuc k) f n = by_order (suc k) (2 ^ hbits w) (λ h. record { sfits = h }) (λ h. absurd (n (ap negsuc (omega (arith, f.sfits)))))
+
+module _ {w : Width} {a : ℤ} (fa : SFits w a) where
+  negated_is : pos 0 -ℤ held w a ≡ neg_ℤ a
+  negated_is = ap (λ z. pos 0 -ℤ z) (is_held fa) ∙ +ℤ_idl (neg_ℤ a)
+
+  pub min_overflows : of_z w a ≡ of_z w (min_z w) → Overflows w (neg_ℤ a) (min_z w) true
+  min_overflows e =
+      let is : neg_ℤ a ≡ pos (2 ^ hbits w) = ap neg_ℤ (by_bits (min_z w) fa (min_fits w) e) ∙ ap pos (omega (arith, pow_pos (hbits w))) in
+      record {
+        wrapped =
+            sym (ap (wrap w) is ∙ too_high w (2 ^ hbits w) (omega arith) (omega (arith, pow-bits w, pow_pos (hbits w)))
+            ∙ ap negsuc (omega (arith, pow-bits w)));
+        flagged = sym (ap (outside w) is ∙ le-leb (2 ^ hbits w) (2 ^ hbits w) (omega arith));
+      }
+
+  module _ (n : of_z w a ≡ of_z w (min_z w) → ⊥) where
+    other_fits : SFits w (neg_ℤ a)
+    other_fits = neg_fits w a fa (λ e. n (ap (of_z w) e))
+
+    pub negation_fits : SFits w (pos 0 -ℤ held w a)
+    negation_fits = subst (SFits w) (sym negated_is) other_fits
+
+    pub negation_given : Overflows w (neg_ℤ a) (held w (pos 0 -ℤ held w a)) false
+    negation_given = record {
+      wrapped = is_held negation_fits ∙ negated_is ∙ sym (wrap_fits w (neg_ℤ a) other_fits);
+      flagged = sym (lt-leb (2 ^ hbits w) (mag (neg_ℤ a)) other_fits.sfits);
+    }

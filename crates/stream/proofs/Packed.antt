@@ -11,7 +11,7 @@ use Rattle.stream.specs.declared.Stream.{Stream}
 use Rattle.stream.specs.Stream.{outcome, keeping, take_reply, Takes, Feeds, Ends}
 use Rattle.stream.specs.Packed.{state_of, bytes_of, Told, ToldFeed, ToldEnd}
 
--- `pack`: 16 bytes are copied over zeros, and then their count
+-- the 17 bytes of a state: 16 are copied over zeros, and then their count
 pub packed : (s : Stream) {k : List ℕ} → length s.bytes ≡ 16 → k ≡ s.bytes → set (k ++ (0 ∷ [])) 16 s.count ≡ bytes_of s
 unfolding bytes_of
 packed s n e = ap (λ k. set (k ++ (0 ∷ [])) 16 s.count) e ∙ set_at s.bytes 0 [] s.count 16 n

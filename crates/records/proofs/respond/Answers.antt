@@ -1,4 +1,4 @@
--- The refusal's number a half byte up, and then the value's bytes.
+-- The value's bytes, and before them the refusal's number, a half byte up.
 use Rattle.std.proofs.Common.{refl}
 use Rattle.operations.proofs.Chains.{mapped_answer}
 use Rattle.records.proofs.Calls.{responds}
